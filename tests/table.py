@@ -4283,6 +4283,7 @@ def nodes_of_operators():
 # ---------------------------------------------------------------- types, subtypes and constants
 
 SMALL = 'type Small is range 0 .. 10'
+BIG = 'type Big is range -2 ** 40 .. 2 ** 40'
 LONG = 'type Long is range -2 ** 63 .. 2 ** 63 - 1'
 HUE = 'type Hue is (Red, Yellow, Green, Blue)'
 WARM = f'{HUE}; subtype Warm is Hue range Red .. Yellow'
@@ -4660,6 +4661,300 @@ def powers_of_types():
             ('less_in_a_wider_range', '0 .. 9', 'if V in 2 .. 5 then W := V <6r>- 3; else W := 0; end if', 'W > 0', 11),
             ('less_where_it_is_in_no_subtype', '0 .. 9', 'if V not in S then W := V <6r>- 3; else W := 0; end if', 'W > 0', 11)):
         yield left_at(f'digit_{name}.adb', power(bounds, last_digit, more, by=by), total)
+
+
+# Types of 32 and of 64 bits, subtypes and constants of them, and named numbers: M is one past 32 bits, and P one past 64.
+POWERS = (f'{SMALL}; {BIG}; {LONG}; {HUE}; subtype Low is Small range 1 .. 5; subtype Near is Big range 0 .. 100; '
+          'K : constant := 2; M : constant := 2 ** 31; P : constant := 2 ** 63; C : constant Integer := 3; D : constant Big := 5; '
+          'V, U : Big; N : Near; S : Small; L : Low; H : Hue; F : Boolean')
+# The ends of 64 bits, and what is one past them.
+FAR, LEAST = '9223372036854775807', '(-9223372036854775808)'
+TOO_FAR, TOO_LOW = '9223372036854775808', '(-9223372036854775809)'
+LONG_ENDS = (-9223372036854775808, 9223372036854775807)
+
+
+def powered(statement, declared=''):
+    """The text of a procedure with this statement over the types of `POWERS`, and with a declaration after them."""
+    return declaring(f'{POWERS}; {declared}' if declared else POWERS, statement)
+
+
+def powers_kept(what, cases):
+    """Statements that keep all rules on names and types, so that the first breach is in the statement after them."""
+    for name, statement in cases.items():
+        yield refused(f'power_{what}_{name}.adb', powered(f'{statement}; X := @Y'), 'N1')
+
+
+def powers_refused(what, cases):
+    """Statements that break a rule."""
+    for name, (rule, statement) in cases.items():
+        yield refused(f'power_{what}_{name}.adb', powered(statement), rule)
+
+
+def universal_powers_of_right_sides():
+    """The power of a number takes the type of the target, with all that is around it. N12 is at a number that does not fit it."""
+    yield from powers_kept('for', {
+        'a_long_type': 'V := 2 ** A', 'a_long_type_from_its_last': f'V := {FAR} ** A', 'a_long_type_from_its_first': f'V := {LEAST} ** A',
+        'a_long_subtype': 'N := 4294967296 ** A', 'a_short_type': 'S := 2 ** A', 'a_short_type_from_its_last': 'S := 2147483647 ** A',
+        'a_short_type_from_its_first': 'S := (-2147483648) ** A', 'a_short_subtype': 'L := 2147483647 ** A', 'an_integer': 'X := 2 ** A',
+        'an_integer_from_its_last': 'X := 2147483647 ** A', 'an_integer_from_its_first': 'X := (-2147483648) ** A',
+        'a_product': 'V := 4294967296 * 2 ** A', 'a_product_from_the_left': 'V := 2 ** A * 4294967296', 'a_sum': 'V := 1 + 2 ** A',
+        'a_difference': 'V := 2 ** A - 1', 'a_quotient': 'V := 4294967296 / 2 ** A', 'a_mod': 'V := 2 ** A mod 4294967297',
+        'a_rem': 'V := 2 ** A rem 4294967297', 'a_sign': 'V := -4294967296 ** A', 'a_sign_over_parentheses': 'V := -(4294967296 ** A)',
+        'a_plus': 'V := +4294967296 ** A', 'an_abs': 'V := abs (4294967296 ** A)', 'parentheses': 'V := ((4294967296 ** A))',
+        'two_powers': 'V := 4294967296 ** A + 4294967297 ** X', 'a_product_of_powers': 'V := 4294967296 ** A * 3 ** X',
+        'a_power_of_a_power': 'V := (4294967296 ** A) ** 2', 'a_power_of_a_power_that_varies': 'V := (4294967296 ** A) ** X',
+        'a_named_number': 'V := M ** A', 'a_named_number_that_fits_less_one': 'V := (P - 1) ** A', 'a_sum_of_numbers': 'V := (1 + 1) ** A',
+        'a_static_power': 'V := (2 ** C) ** A', 'a_long_static_power': 'V := 2 ** 62 * 2 ** A', 'a_difference_that_fits': f'V := {TOO_FAR} - 1 + 2 ** A',
+        'a_product_that_fits_an_integer': 'X := 1073741824 * 2 - 1 + 2 ** A', 'a_sum_of_many': 'V := 1 + 2 ** A - 3 * (4 + 5 ** X) / K'})
+    yield from powers_refused('for', {
+        'a_long_type_past_its_last': ('N12', f'V := @{TOO_FAR} ** A'), 'a_long_type_below_its_first': ('N12', f'V := @{TOO_LOW} ** A'),
+        'a_long_subtype_past_its_last': ('N12', f'N := @{TOO_FAR} ** A'), 'a_short_type_past_its_last': ('N12', 'S := @2147483648 ** A'),
+        'a_short_type_below_its_first': ('N12', 'S := @(-2147483649) ** A'), 'a_short_subtype_past_its_last': ('N12', 'L := @2147483648 ** A'),
+        'an_integer_past_its_last': ('N12', 'X := @2147483648 ** A'), 'an_integer_below_its_first': ('N12', 'X := @(-2147483649) ** A'),
+        'a_product_past_integer': ('N12', 'X := @4294967296 * 2 ** A'), 'a_product_past_integer_on_the_right': ('N12', 'X := 2 ** A * @4294967296'),
+        'a_product_past_64_bits': ('N12', f'V := @{TOO_FAR} * 2 ** A'), 'a_sum_past_64_bits': ('N12', f'V := 2 ** A + @{TOO_FAR}'),
+        'a_divisor_past_64_bits': ('N12', f'V := 2 ** A / @{TOO_FAR}'), 'a_divisor_past_integer': ('N12', 'X := 2 ** A mod @2147483648'),
+        'a_sign_past_64_bits': ('N12', f'V := -@{TOO_FAR} ** A'), 'a_sign_past_integer': ('N12', 'X := -@2147483648 ** A'),
+        'a_plus_past_64_bits': ('N12', f'V := +@{TOO_FAR} ** A'), 'an_abs_past_64_bits': ('N12', f'V := abs (@{TOO_FAR} ** A)'),
+        'parentheses_past_64_bits': ('N12', f'V := ((@{TOO_FAR} ** A))'), 'a_number_in_parentheses_past_64_bits': ('N12', f'V := @(({TOO_FAR})) ** A'),
+        'a_named_number_past_64_bits': ('N12', 'V := @P ** A'), 'a_named_number_past_integer': ('N12', 'X := @M ** A'),
+        'a_named_number_in_a_product': ('N12', 'S := 2 ** A * @M'), 'a_sum_of_numbers_past_64_bits': ('N12', 'V := @(P + 0) ** A'),
+        'a_sum_beside_it_past_64_bits': ('N12', f'V := {FAR} @+ 1 + 2 ** A'), 'a_sum_beside_it_past_integer': ('N12', 'X := 2147483647 @+ 1 + 2 ** A'),
+        'an_abs_of_a_number_past_integer': ('N12', 'X := @abs (-2147483648) * 2 ** A'), 'a_static_power_past_64_bits': ('N12', 'V := 2 ** A * 2 @** 63'),
+        'a_static_power_past_integer': ('N12', 'X := 2 ** A * 2 @** 31'), 'a_power_of_a_power_past_64_bits': ('N12', f'V := (@{TOO_FAR} ** A) ** 2'),
+        'an_inner_sum_past_64_bits': ('N12', f'V := 2 ** A * (3 ** X + @{TOO_FAR})'), 'the_first_of_two': ('N12', f'V := @{TOO_FAR} ** A + 9223372036854775809 ** A'),
+        'the_widest_number': ('N12', f'V := 2 ** A + @{WIDEST}'),
+        # no type of numbers
+        'a_truth_value': ('N10', 'F := 2 @** A'), 'a_truth_value_and_a_wide_number': ('N10', f'F := {TOO_FAR} @** A'), 'a_literal': ('N10', 'H := 2 @** A'),
+        'a_literal_by_a_sign': ('N10', 'H := @-2 ** A'), 'a_literal_in_parentheses': ('N10', f'H := @({TOO_FAR} ** A)'), 'a_literal_by_a_sum': ('N10', 'H := 2 ** A @+ 2147483648'),
+        # what breaks a rule inside comes first
+        'a_static_fault': ('N12', f'V := {TOO_FAR} ** A + 1 @/ 0'), 'a_number_past_128_bits': ('N12', f'V := {TOO_FAR} ** A + 2 @** 127'),
+        'an_operand_of_another_type': ('N10', f'V := {TOO_FAR} ** A + X @** V'), 'no_name': ('N1', f'V := {TOO_FAR} ** A * @Y'),
+        # constants as targets
+        'a_constant': ('U2', '@C := 2 ** A'), 'a_long_constant': ('U2', '@D := 4294967296 ** A'), 'a_constant_past_integer': ('N12', 'C := @2147483648 ** A'),
+        'a_long_constant_past_64_bits': ('N12', f'D := @{TOO_FAR} ** A'), 'a_named_number_as_a_target': ('U2', '@K := 2 ** A'),
+        'a_named_number_as_a_target_and_a_wide_number': ('U2', f'@K := {TOO_FAR} ** A')})
+
+
+def universal_powers_beside_operands():
+    """The power of a number takes the type of the operand beside it, on either side."""
+    for operator in ('+', '-', '*', '/', 'mod', 'rem'):
+        name = {'+': 'sum', '-': 'difference'}.get(operator) or OPERATOR_NAMES[operator]
+        yield from powers_kept(f'beside_a_{name}', {
+            'of_a_long_type': f'V := V {operator} {FAR} ** A', 'before_one_of_a_long_type': f'V := {LEAST} ** A {operator} V',
+            'of_an_integer': f'X := X {operator} 2147483647 ** A', 'before_one_of_an_integer': f'X := (-2147483648) ** A {operator} X'})
+        yield from powers_refused(f'beside_a_{name}', {
+            'past_64_bits': ('N12', f'V := V {operator} @{TOO_FAR} ** A'), 'past_64_bits_on_the_left': ('N12', f'V := @{TOO_FAR} ** A {operator} V'),
+            'below_64_bits': ('N12', f'V := V {operator} @{TOO_LOW} ** A'), 'past_integer': ('N12', f'X := X {operator} @2147483648 ** A'),
+            'past_integer_on_the_left': ('N12', f'X := @2147483648 ** A {operator} X'), 'past_a_short_type': ('N12', f'S := S {operator} @2147483648 ** A'),
+            'below_a_short_type': ('N12', f'S := @(-2147483649) ** A {operator} S'), 'of_an_integer_for_another_type': ('N10', f'V := 2 ** A @{operator} X'),
+            'after_an_integer_for_another_type': ('N10', f'V := X @{operator} 2 ** A'), 'of_a_truth_value': ('N10', f'X := 2147483648 ** A @{operator} F'),
+            'after_a_literal': ('N10', f'X := H @{operator} 2147483648 ** A')})
+    yield from powers_kept('beside', {
+        'a_constant': 'V := D * 4294967296 ** A', 'an_attribute': "V := Big'Last - 4294967296 ** A", 'a_conversion': 'V := Big (X) + 4294967296 ** A',
+        'a_qualification': "V := 4294967296 ** A - Big'(5)", 'a_sum': 'V := V + 1 - 4294967296 ** A', 'a_sum_of_powers': 'V := V * (4294967296 ** A + 3 ** X)',
+        'a_sum_of_three': 'V := 4294967296 ** A + 4294967297 + V', 'a_sum_of_numbers_that_fits': 'X := 2147483648 - 1 + 2 ** A + X',
+        'a_power': 'V := V ** A + 4294967296 ** A', 'a_position': "X := Hue'Pos (H) + 2 ** A"})
+    yield from powers_refused('beside', {
+        'a_constant_past_64_bits': ('N12', f'V := D * @{TOO_FAR} ** A'), 'an_integer_constant': ('N12', 'V := C + @2147483648 ** A'),
+        'a_sum_of_powers_past_64_bits': ('N12', f'V := V * (2 ** A + @{TOO_FAR} ** A)'), 'a_sum_of_three_past_integer': ('N12', 'X := 2 ** A + @2147483648 + X'),
+        'a_sum_of_numbers_past_integer': ('N12', 'X := @2147483648 + 2 ** A + X'), 'a_position_past_integer': ('N12', "X := Hue'Pos (H) + @2147483648 ** A"),
+        'a_position_for_another_type': ('N10', "V := Hue'Pos (H) @+ 2 ** A"), 'an_integer_and_then_another_type': ('N10', 'V := 2 ** A + X @+ V'),
+        'a_sum_and_then_another_type': ('N10', 'V := 2 ** A + V @- S'), 'another_type_and_a_wide_number': ('N12', 'V := @2147483648 ** A + X'),
+        'an_operand_and_a_later_name': ('N12', 'X := X + @2147483648 ** A - Y'), 'an_undeclared_name': ('N1', 'X := 2147483648 ** A + @Y')})
+
+
+def universal_powers_in_relations():
+    """The power of a number takes the type of the other operand of a comparison. Beside a number it is an Integer, and so is that number."""
+    for operator in ('=', '/=', '<', '<=', '>', '>='):
+        name = {'=': 'equal', '/=': 'not_equal', '<': 'less', '<=': 'less_or_equal', '>': 'greater', '>=': 'greater_or_equal'}[operator]
+        yield from powers_kept(f'with_{name}', {
+            'after_a_long_type': f'F := V {operator} {FAR} ** A', 'before_a_long_type': f'F := {LEAST} ** A {operator} V',
+            'after_an_integer': f'F := X {operator} 2147483647 ** A', 'before_an_integer': f'F := (-2147483648) ** A {operator} X',
+            'before_a_number': f'F := 2 ** A {operator} 2147483647', 'after_a_number': f'F := -2147483648 {operator} 2 ** A',
+            'before_a_power': f'F := 2147483647 ** A {operator} (-2147483648) ** A'})
+        yield from powers_refused(f'with_{name}', {
+            'past_64_bits': ('N12', f'F := V {operator} @{TOO_FAR} ** A'), 'past_64_bits_on_the_left': ('N12', f'F := @{TOO_FAR} ** A {operator} V'),
+            'past_integer': ('N12', f'F := X {operator} @2147483648 ** A'), 'past_integer_on_the_left': ('N12', f'F := @2147483648 ** A {operator} X'),
+            'before_a_number_past_integer': ('N12', f'F := 2 ** A {operator} @2147483648'), 'after_a_number_below_integer': ('N12', f'F := @-2147483649 {operator} 2 ** A'),
+            'a_number_past_integer': ('N12', f'F := @2147483648 ** A {operator} 5'), 'a_number_past_integer_on_the_right': ('N12', f'F := 5 {operator} @2147483648 ** A'),
+            'before_a_power_past_integer': ('N12', f'F := 2 ** A {operator} @2147483648 ** A'), 'two_past_integer': ('N12', f'F := @2147483648 ** A {operator} 2147483649 ** A'),
+            'a_truth_value': ('N10', f'F := 2147483648 ** A @{operator} F'), 'a_literal': ('N10', f'F := H @{operator} 2147483648 ** A')})
+    yield from powers_kept('in_a_comparison', {
+        'with_a_constant': 'F := D = 4294967296 ** A', 'with_an_attribute': "F := Big'Last >= 4294967296 ** A", 'with_a_sum': 'F := 4294967296 ** A <= V + 1',
+        'with_a_conversion': 'F := 4294967296 * 2 ** A = Big (X)', 'of_a_sum': 'F := 4294967296 ** A + 4294967297 > V',
+        'in_parentheses': 'F := (4294967296 ** A) > V', 'under_an_if': 'if 4294967296 ** A > V then null; end if',
+        'under_an_elsif': 'if B then null; elsif V < 4294967296 ** A then null; end if', 'under_a_while': 'while V < 4294967296 ** A loop null; end loop',
+        'under_an_exit': 'loop exit when V < 4294967296 ** A; end loop', 'under_and': 'F := 4294967296 ** A > V and 2 ** A > X',
+        'under_and_then': 'F := V > 0 and then V < 4294967296 ** A', 'under_or_else': 'F := X < 2 ** A or else 4294967296 ** A = V',
+        'under_not': 'F := not (4294967296 ** A = V)', 'under_xor': 'F := 2 ** A > 5 xor 4294967296 ** A > V',
+        'of_comparisons': 'F := (2 ** A > X) = (4294967296 ** A > V)'})
+    yield from powers_refused('that_breaks_a_comparison', {
+        'with_a_named_number_past_integer': ('N12', 'F := 2 ** A > @M'), 'with_a_static_power_past_integer': ('N12', 'F := 2 ** A > 2 @** 31'),
+        'with_a_sum_past_integer': ('N12', 'F := 2 ** A + @2147483648 > 5'), 'of_two_types': ('N10', 'F := 2 ** A + X @> V'),
+        'under_and': ('N12', 'F := 4294967296 ** A > V and X > @4294967296 ** A'), 'under_and_then': ('N12', 'F := 2 ** A > 5 and then 2 ** A < @4294967296'),
+        'under_or': ('N12', 'F := @4294967296 ** A > X or 4294967296 ** A > V'), 'of_comparisons': ('N12', 'F := (4294967296 ** A > V) = (@4294967296 ** A > X)'),
+        'under_an_if': ('N12', 'if 2 ** A > @4294967296 then null; end if'), 'under_a_while': ('N12', f'while V < @{TOO_FAR} ** A loop null; end loop'),
+        'for_an_operand_of_and': ('N10', 'F := 2147483648 ** A @and F'), 'for_an_operand_of_or_else': ('N10', 'F := F @or else 2147483648 ** A'),
+        'for_an_operand_of_not': ('N10', 'F := @not (2147483648 ** A)'), 'with_an_undeclared_name': ('N1', 'F := 2147483648 ** A > @Y')})
+
+
+def universal_powers_in_tests():
+    """In a membership test the power of a number takes the type that is named, or that of the first of the three that has one."""
+    yield from powers_kept('tested', {
+        'in_a_long_type': f'F := {FAR} ** A in Big', 'not_in_a_long_subtype': f'F := {LEAST} ** A not in Near', 'in_integer': 'F := 2147483647 ** A in Integer',
+        'not_in_natural': 'F := (-2147483648) ** A not in Natural', 'in_a_short_subtype': 'F := 2147483647 ** A in Low',
+        'before_a_low_bound': 'F := 4294967296 ** A in V .. 4294967296', 'before_a_high_bound': 'F := 4294967296 ** A in 4294967296 .. V',
+        'for_a_low_bound': 'F := V in 4294967296 ** A .. 4294967296', 'for_a_high_bound': 'F := V in 4294967296 .. 4294967296 ** A',
+        'for_a_low_bound_before_a_type': 'F := 4294967296 in 4294967296 ** A .. V', 'for_a_high_bound_after_a_type': 'F := 4294967296 in V .. 4294967296 ** A',
+        'for_all_but_one': 'F := 4294967296 ** A not in 4294967297 ** A .. V', 'among_numbers': 'F := 2 ** A in -2147483648 .. 2147483647',
+        'for_a_low_bound_among_numbers': 'F := 5 in 2147483647 ** A .. 2147483647', 'for_a_high_bound_among_numbers': 'F := 2147483647 in 0 .. 2147483647 ** A',
+        'three_times': 'F := 2 ** A in 3 ** A .. 4 ** A'})
+    yield from powers_refused('tested', {
+        'in_a_long_type_past_64_bits': ('N12', f'F := @{TOO_FAR} ** A in Big'), 'in_a_long_subtype_below_64_bits': ('N12', f'F := @{TOO_LOW} ** A not in Near'),
+        'in_integer_past_it': ('N12', 'F := @2147483648 ** A in Integer'), 'in_natural_past_integer': ('N12', 'F := @2147483648 ** A not in Natural'),
+        'in_a_short_type_past_integer': ('N12', 'F := @2147483648 ** A in Small'), 'in_literals': ('N10', 'F := 2147483648 ** A @in Hue'),
+        'in_no_literals': ('N10', 'F := 2147483648 ** A @not in Hue'), 'in_truth_values': ('N10', 'F := 2147483648 ** A in @Boolean'),
+        'in_nothing': ('N1', 'F := 2147483648 ** A in @Y'), 'before_a_low_bound_past_64_bits': ('N12', f'F := @{TOO_FAR} ** A in V .. U'),
+        'before_a_high_bound_past_integer': ('N12', 'F := @2147483648 ** A in 0 .. X'), 'beside_a_low_bound_past_integer': ('N12', 'F := 2 ** A in @2147483648 .. X'),
+        'for_a_low_bound_past_64_bits': ('N12', f'F := V in @{TOO_FAR} ** A .. 5'), 'for_a_high_bound_past_64_bits': ('N12', f'F := V not in 0 .. @{TOO_FAR} ** A'),
+        'for_a_low_bound_past_integer': ('N12', 'F := X in @2147483648 ** A .. 5'), 'for_a_low_bound_before_a_type_past_64_bits': ('N12', f'F := 5 in @{TOO_FAR} ** A .. V'),
+        'for_a_high_bound_after_a_type_past_64_bits': ('N12', f'F := 5 in V .. @{TOO_FAR} ** A'), 'for_two_bounds': ('N12', 'F := X in @2147483648 ** A .. 2147483649 ** A'),
+        'among_numbers_past_integer': ('N12', 'F := @2147483648 ** A in 0 .. 5'), 'before_a_number_past_integer': ('N12', 'F := 2 ** A in 0 .. @2147483648'),
+        'after_a_number_past_integer': ('N12', 'F := @2147483648 in 2 ** A .. 3'), 'after_a_bound_past_integer': ('N12', 'F := 0 in @2147483648 .. 2 ** A'),
+        'for_a_high_bound_past_integer': ('N12', 'F := 0 in 2 ** A .. @2147483648 ** A'), 'among_literals': ('N10', 'F := 2147483648 ** A @in Red .. Blue'),
+        'among_truth_values': ('N10', 'F := 2147483648 ** A @in F .. B'), 'among_two_types': ('N10', 'F := 2147483648 ** A @in V .. X'),
+        'beside_an_undeclared_name': ('N1', f'F := {TOO_FAR} ** A in V .. @Y')})
+
+
+def universal_powers_of_bounds():
+    """As a bound of a `for` the power of a number takes the base type of its type; in a conversion or a qualification that of the name."""
+    def counted(bounds):
+        return f'for I in {bounds} loop null; end loop'
+
+    yield from powers_kept('of', {
+        'a_low_bound': counted(f'Big range {LEAST} ** A .. V'), 'a_high_bound': counted(f'reverse Big range 0 .. {FAR} ** A'),
+        'two_bounds': counted('Near range 4294967296 ** A .. 4294967297 ** A'), 'integer_bounds': counted('Natural range 2147483647 ** A .. (-2147483648) ** A'),
+        'a_long_conversion': f'V := Big ({FAR} ** A)', 'a_conversion_to_a_long_subtype': f'V := Near ({LEAST} ** A)', 'a_conversion': 'X := Integer (2147483647 ** A)',
+        'a_conversion_to_a_short_type': 'S := Small ((-2147483648) ** A)', 'a_conversion_of_a_sum': 'V := Big (4294967296 + 2 ** A)',
+        'a_conversion_of_a_conversion': 'V := Big (Integer (2 ** A))', 'a_long_qualification': f"V := Big'({FAR} ** A)", 'a_subtype_qualification': f"V := Near'({LEAST} ** A)",
+        'a_qualification': "X := Natural'(2147483647 ** A)", 'val': "H := Hue'Val (2147483647 ** A)", 'val_of_a_sum': "H := Hue'Val (1 + 2 ** A)"})
+    yield from powers_refused('of', {
+        'a_low_bound_past_64_bits': ('N12', counted(f'Big range @{TOO_FAR} ** A .. 5')), 'a_high_bound_past_64_bits': ('N12', counted(f'Near range 0 .. @{TOO_FAR} ** A')),
+        'a_low_bound_past_integer': ('N12', counted('Integer range @2147483648 ** A .. 5')), 'a_high_bound_past_integer': ('N12', counted('reverse Natural range 0 .. @2147483648 ** A')),
+        'a_bound_past_a_short_type': ('N12', counted('Small range 0 .. @2147483648 ** A')), 'a_low_bound_of_literals': ('N10', counted('Hue range 2147483648 @** A .. Blue')),
+        'a_high_bound_of_literals': ('N10', counted('Hue range Red .. @-2147483648 ** A')), 'a_bound_before_a_name': ('N12', counted('Integer range @2147483648 ** A .. Y')),
+        'a_bound_after_a_bound': ('N10', counted('Big range X @+ 2 ** A .. 4294967296 ** A')), 'a_bound_of_truth_values': ('N10', counted('@Boolean range 2 ** A .. True')),
+        'a_long_conversion_past_64_bits': ('N12', f'V := Big (@{TOO_FAR} ** A)'), 'a_conversion_below_64_bits': ('N12', f'V := Near (@{TOO_LOW} ** A)'),
+        'a_conversion_past_integer': ('N12', 'X := Integer (@2147483648 ** A)'), 'a_conversion_past_a_short_type': ('N12', 'S := Small (@2147483648 ** A)'),
+        'a_sum_in_a_conversion_past_integer': ('N12', 'V := Big (Integer (2 ** A + @2147483648))'), 'a_conversion_for_another_type': ('N10', 'V := @Small (2 ** A)'),
+        'a_conversion_to_a_truth_value': ('N10', 'F := @Boolean (2 ** A)'), 'a_conversion_to_a_literal': ('N10', 'H := @Hue (2147483648 ** A)'),
+        'a_long_qualification_past_64_bits': ('N12', f"V := Big'(@{TOO_FAR} ** A)"), 'a_subtype_qualification_below_64_bits': ('N12', f"V := Near'(@{TOO_LOW} ** A)"),
+        'a_qualification_past_integer': ('N12', "X := Natural'(@2147483648 ** A)"), 'a_qualification_by_literals': ('N10', "H := Hue'(2147483648 @** A)"),
+        'a_qualification_by_truth_values': ('N10', "F := Boolean'(2147483648 @** A)"), 'val_past_integer': ('N12', "H := Hue'Val (@2147483648 ** A)"),
+        'val_of_a_sum_past_integer': ('N12', "H := Hue'Val (2 ** A + @2147483648)"), 'pos': ('N10', "X := Hue'Pos (2 @** A)"), 'succ': ('N10', "H := Hue'Succ (2 @** A)"),
+        'pred': ('N10', "H := Hue'Pred (@-2 ** A)"), 'pos_past_integer': ('N12', "X := Hue'Pos (@2147483648 ** A)"), 'succ_past_integer': ('N12', "H := Hue'Succ (@2147483648 ** A)")})
+
+
+def universal_powers_that_meet_nothing():
+    """The power of a number is an Integer as an exponent, as a selector, as a condition, and where it meets nothing else."""
+    yield from powers_kept('alone', {
+        'as_an_exponent': 'V := V ** (2147483647 ** A)', 'as_an_exponent_of_a_number': 'V := 4294967296 ** (2147483647 ** A)',
+        'as_an_exponent_of_an_exponent': 'V := 4294967296 ** (2 ** (2 ** A))', 'as_an_exponent_below_zero': 'V := 2 ** (-2 ** A)',
+        'as_a_selector': 'case 2 ** A is when 0 => null; when others => null; end case', 'as_a_selector_from_its_last': 'case 2147483647 ** A is when 1 .. 5 => null; when others => null; end case',
+        'as_a_selector_with_all_choices': "case 2 ** A is when Integer'First .. -1 => null; when 0 .. 2147483647 => null; end case",
+        'as_a_selector_with_a_typed_choice': 'case 2 ** A + 1 is when C => null; when others => null; end case'})
+    yield from powers_refused('alone', {
+        'as_an_exponent_past_integer': ('N12', 'V := V ** (@2147483648 ** A)'), 'as_an_exponent_of_a_number_past_integer': ('N12', 'V := 2 ** (@2147483648 ** A)'),
+        'as_an_exponent_before_its_base': ('N12', f'V := {TOO_FAR} ** (@2147483648 ** A)'), 'as_an_exponent_by_a_sum': ('N12', 'V := 2 ** (@4294967296 - 2 ** A)'),
+        'with_a_wide_exponent': ('N12', f'V := ({TOO_FAR} ** A) ** @2147483648'), 'with_an_exponent_of_another_type': ('N10', 'V := 2 @** V'),
+        'with_a_truth_value_for_an_exponent': ('N10', f'V := {TOO_FAR} @** F'), 'with_a_literal_for_an_exponent': ('N10', 'V := (2 ** A) @** H'),
+        'with_a_sum_of_another_type': ('N10', 'V := 2 @** (V + 4294967296 ** A)'), 'as_an_exponent_of_a_truth_value': ('N10', 'V := F @** (2 ** A)'),
+        'as_a_selector_past_integer': ('N12', 'case @2147483648 ** A is when others => null; end case'), 'as_a_selector_by_a_sum': ('N12', 'case 2 ** A + @2147483648 is when others => null; end case'),
+        'as_a_selector_that_lacks_choices': ('N17', '@case 2 ** A is when 0 .. 2147483647 => null; end case'), 'as_a_selector_past_integer_that_lacks_choices': ('N12', 'case @2147483648 ** A is when 0 => null; end case'),
+        'as_a_selector_with_a_wide_choice': ('N12', 'case 2 ** A is when @2147483648 => null; when others => null; end case'), 'as_a_selector_with_another_type': ('N10', 'case 2 ** A is when @D => null; when others => null; end case'),
+        'as_a_condition': ('N10', 'if 2 @** A then null; end if'), 'as_a_condition_of_an_elsif': ('N10', 'if B then null; elsif @-2 ** A then null; end if'),
+        'as_a_condition_of_a_while': ('N10', 'while @(2 ** A) loop null; end loop'), 'as_a_condition_of_an_exit': ('N10', 'loop exit when 1 @+ 2 ** A; end loop'),
+        'as_a_condition_past_integer': ('N12', 'if @2147483648 ** A then null; end if'), 'as_a_check': ('N10', '\n--# check 2 @** A;\nnull'),
+        'as_an_assertion': ('N10', '\n--# assert @abs (2 ** A);\nnull')})
+
+
+def universal_powers_that_should_be_static():
+    """Where a static value is needed, the power of a variable breaks N11, whatever its numbers are. What is in it takes its types as elsewhere."""
+    for name, (rule, declared) in {
+            'a_low_bound': ('N11', 'type Q is range 2 @** A .. 5'), 'a_high_bound': ('N11', f'type Q is range 0 .. {TOO_FAR} @** A'), 'a_bound_with_a_sign': ('N11', 'type Q is range @-2 ** A .. 5'),
+            'a_bound_in_parentheses': ('N11', 'type Q is range @(2 ** A) .. 5'), 'a_low_bound_of_a_subtype': ('N11', 'subtype Q is Integer range 2147483648 @** A .. 5'),
+            'a_high_bound_of_a_subtype': ('N11', f'subtype Q is Big range 0 .. {TOO_FAR} @** A'), 'a_bound_of_literals': ('N10', 'subtype Q is Hue range 2 @** A .. Blue'),
+            'a_constant': ('N11', 'Q : constant Integer := 2147483648 @** A'), 'a_long_constant': ('N11', f'Q : constant Big := {TOO_FAR} @+ 2 ** A'), 'a_named_number': ('N11', f'Q : constant := {TOO_FAR} @** A'),
+            'a_truth_constant': ('N10', 'Q : constant Boolean := 2 @** A'), 'a_literal_constant': ('N10', 'Q : constant Hue := 2 @** A'), 'an_initial_value': ('N11', 'Q : Integer := 2147483648 @** A'),
+            'a_long_initial_value': ('N11', f'Q : Near := {TOO_FAR} @** A'), 'an_initial_literal': ('N10', 'Q : Hue := 2 @** A'), 'an_initial_truth_value': ('N10', 'Q : Boolean := @-2 ** A'),
+            'an_initial_conversion': ('N11', 'Q : Big := @Big (4294967296 ** A)'), 'an_initial_comparison': ('N11', 'Q : Boolean := D @> 4294967296 ** A'),
+            'an_initial_sum': ('N11', 'Q : Big := D @+ 4294967296 ** A'), 'an_initial_sum_past_64_bits': ('N12', f'Q : Big := D + @{TOO_FAR} ** A'),
+            'a_constant_with_a_variable': ('N12', 'Q : constant Integer := A + @2147483648 ** A'), 'a_named_number_with_a_constant': ('N11', 'Q : constant := D @+ 4294967296 ** A'),
+            'a_named_number_with_a_wide_number': ('N12', f'Q : constant := D + @{TOO_FAR} ** A'), 'a_constant_by_a_comparison': ('N12', 'Q : constant Boolean := 2 ** A > @2147483648'),
+            'a_named_number_by_an_exponent': ('N12', 'Q : constant := 2 ** (@2147483648 ** A)'), 'a_named_number_by_a_wide_exponent': ('N11', f'Q : constant := {TOO_FAR} @** (2147483647 ** A)'),
+            'a_constant_by_a_conversion': ('N12', 'Q : constant Integer := Integer (@2147483648 ** A)'), 'a_bound_by_a_conversion': ('N11', 'type Q is range 0 .. @Integer (2 ** A)'),
+            'a_bound_by_a_sum': ('N12', f'type Q is range 0 .. V + @{TOO_FAR} ** A')}.items():
+        yield refused(f'power_that_is_not_static_for_{name}.adb', powered('null', declared), rule)
+    for name, (rule, selector, choice) in {
+            'choice': ('N11', 'X', '2147483648 @** A'), 'long_choice': ('N11', 'V', f'{TOO_FAR} @** A'), 'high_choice': ('N11', 'X', '1 .. @-2 ** A'), 'choice_of_literals': ('N10', 'H', '2 @** A'),
+            'choice_for_a_number': ('N11', '5', '2 @** A'), 'choice_for_a_power': ('N11', '2 ** A', '2147483648 @** A'), 'choice_by_a_sum': ('N12', 'X', 'X + @2147483648 ** A'),
+            'choice_by_a_long_sum': ('N11', 'V', 'D @+ 4294967296 ** A'), 'choice_by_a_comparison': ('N10', 'X', '@(2 ** A > 5)'),
+            'choice_by_an_exponent': ('N12', 'X', '2 ** (@2147483648 ** A)')}.items():
+        yield refused(f'power_that_is_not_static_for_a_{name}.adb', powered(f'case {selector} is when {choice} => null; when others => null; end case'), rule)
+
+
+def universal_powers_in_annotations():
+    """In an annotation the power of a number meets its types as elsewhere."""
+    for name, (rule, pre) in {
+            'a_precondition': ('N12', '2 ** A > @2147483648'), 'a_precondition_with_a_sum': ('N12', 'X < @2147483648 ** A + 1'), 'a_precondition_that_is_a_number': ('N10', '2 @** A'),
+            'a_test_in_a_precondition': ('N12', 'A in 0 .. @2147483648 ** A'), 'an_implication_in_a_precondition': ('N12', 'A > 0 -> @2147483648 ** A > X')}.items():
+        yield refused(f'power_in_{name}.adb', declaring(POWERS, 'X := A', pre=pre), rule)
+    yield refused('power_in_a_postcondition.adb', ending('X = @2147483648 ** X', 'X := X'), 'N12')
+    yield refused('power_of_a_value_on_entry.adb', ending('X > 2 ** X~ and 2 ** X~ > @2147483648', 'X := X'), 'N12')
+    yield from powers_kept('stated', {
+        'in_a_check': f'\n--# check V = {FAR} ** A;\nnull', 'in_an_assertion': f'\n--# assert {LEAST} ** A in V .. U;\nnull',
+        'in_an_implication': '\n--# check 4294967296 ** A > V -> 2 ** A > X;\nnull', 'with_a_value_on_entry': '\n--# check 2 ** X~ >= X~;\nnull'})
+    yield from powers_refused('stated', {
+        'in_a_check_past_64_bits': ('N12', f'\n--# check V = @{TOO_FAR} ** A;\nnull'), 'in_an_assertion_past_integer': ('N12', '\n--# assert 2 ** A < @2147483648;\nnull'),
+        'in_an_equivalence': ('N12', '\n--# check 4294967296 ** A > V <-> @4294967296 ** A > X;\nnull')})
+    # nothing is asked of it there
+    yield accepted('power_in_pre_and_post.adb', longer(A_TO_X, 'X from A', 'X := A', pre='2 ** A > 5', post='2 ** A > 5'), 2)
+    yield accepted('power_in_a_check_and_an_assertion.adb', longer(A_TO_X, 'X from A', 'X := A', '--# check 2 ** A = 2 ** A', '--# assert 2 ** A = 2 ** A and X = A', '--# check X = A'), 4)
+    yield accepted('static_power_beside_a_long_type.adb', longer(A_TO_X, 'X from A', 'V := 4294967296', '--# check V = 65536 ** 2 and 65536 ** K = 4294967296', 'if V > 0 then X := A; else X := 0; end if',
+                                                          declared=['type Big is range 0 .. 2 ** 40; V : Big; K : constant Integer := 2']), 4)
+
+
+def checks_of_universal_powers():
+    """Overflow is looked at by the base range of the type that the power of a number takes."""
+    declared = f'{BIG}; {LONG}; V, U : Big; W : Long; N, T : Integer; F : Boolean'
+
+    def known(exponent, *statements, by):
+        return deciding(declared, f'N := {exponent}', *statements, by=by)
+
+    for name, exponent, statement, by, total in (
+            ('within_its_type', 40, 'V := 2 ** N', 'V > 0', 6), ('past_its_type', 41, 'V := 2 <4r>** N', 'V > 0', 6), ('below_its_type', 41, 'V := (-2) <4r>** N', 'V > 0', 6),
+            ('past_64_bits', 63, 'V := 2 <3o>** N', 'V > 0', 6), ('within_64_bits', 62, 'W := 2 ** N', 'W > 0', 6), ('past_all_of_64_bits', 63, 'W := 2 <3o>** N', 'W > 0', 6),
+            ('at_the_first_of_64_bits', 63, 'W := (-2) ** N', 'W < 0', 6), ('minus_the_first_of_64_bits', 63, 'W := <4o>-((-2) ** N)', 'W < 0', 7), ('abs_of_the_first_of_64_bits', 63, 'W := <4o>abs ((-2) ** N)', 'W < 0', 7),
+            ('one_less_than_the_first', 63, 'W := (-2) ** N <4o>- 1', 'W < 0', 7), ('quotient_of_the_first', 63, 'W := (-2) ** N <5o>/ (-1)', 'W < 0', 8),
+            ('within_integer', 30, 'T := 2 ** N', 'T > 0', 6), ('past_integer', 31, 'T := 2 <3o>** N', 'T > 0', 6), ('sum_past_integer', 30, 'T := 2 ** N <6o>+ 2 ** N', 'T > 0', 9),
+            ('sum_within_64_bits', 40, 'W := 2 ** N + 2 ** N', 'W > 0', 9), ('product_within_64_bits', 30, 'W := 4294967296 * 2 ** N', 'W > 0', 7), ('product_past_64_bits', 31, 'W := 4294967296 <4o>* 2 ** N', 'W > 0', 7),
+            ('exponent_below_zero', -1, 'V := 2 ** <2r>N', 'V > 0', 6), ('zero_to_a_great_power', 2147483647, 'V := 0 ** N', 'V = 0', 6),
+            ('power_of_a_power', 6, 'W := (2 ** N) <5o>** 11', 'W > 0', 8), ('power_of_a_power_within', 6, 'W := (2 ** N) ** 10', 'W > 0', 8),
+            ('power_in_an_exponent', 5, 'W := 2 ** (2 ** N)', 'W > 0', 8), ('power_in_an_exponent_past_64_bits', 6, 'W := 2 <5o>** (2 ** N)', 'W > 0', 8),
+            ('exponent_past_integer', 31, 'W := 1 ** (2 <3o>** N)', 'W > 0', 8),
+            ('conversion', 40, 'V := Big (2 ** N)', 'V > 0', 7), ('conversion_past_its_type', 41, 'V := Big (2 <4r>** N)', 'V > 0', 7), ('conversion_past_64_bits', 63, 'V := Big (2 <3o>** N)', 'V > 0', 7),
+            ('conversion_past_integer', 31, 'T := Integer (2 <3o>** N)', 'T > 0', 7), ('qualification_past_its_type', 41, "V := Big'(2 <4r>** N)", 'V > 0', 7)):
+        yield left_at(f'universal_power_{name}.adb', known(exponent, statement, by=by), total)
+    for name, exponent, by, total in (
+            ('compared', 62, '2 ** N > U', 6), ('compared_from_the_right', 62, 'U < 2 ** N', 6), ('compared_past_64_bits', 63, '2 <4o>** N > U', 6), ('compared_with_a_number', 30, '2 ** N > 5 and U > 5', 6),
+            ('compared_with_a_number_past_integer', 31, '2 <4o>** N > 5 and U > 5', 6), ('compared_with_a_power', 31, '1 ** N = 2 <6o>** N and U > 5', 8), ('tested_in_a_long_type', 62, '2 ** N in Big and U > 5', 6),
+            ('tested_in_integer', 31, '2 <4o>** N in Integer and U > 5', 6), ('tested_in_a_long_range', 62, '2 ** N in U .. 5', 6), ('tested_among_numbers', 31, '2 <4o>** N in 0 .. 5 and U > 5', 6),
+            ('for_a_low_bound', 62, 'U in 2 ** N .. 5', 6), ('for_a_high_bound', 63, 'U in 0 .. 2 <4o>** N', 6), ('beside_a_long_type', 61, 'U + 2 ** N > 5', 7),
+            ('beside_a_long_type_past_64_bits', 63, 'U + 2 <4o>** N > 5', 7), ('beside_an_integer', 31, '2 <4o>** N + N > 5 and U > 5', 7)):
+        yield left_at(f'universal_power_{name}.adb', known(exponent, 'U := 7', by=by), total)
+    guarded = longer('A : in Integer; X : out Boolean', 'X from A', 'V := 7', 'X := A in 0 .. 39 and then 2 <3o>** A > V', declared=['type Big is range 0 .. 2 ** 40; V : Big'])
+    yield left_at('universal_power_guarded.adb', guarded, 3)
 
 
 def conditions_of_enumerations():
@@ -6131,6 +6426,72 @@ def runs_of_types():
     yield ended('constants_in_a_run.adb', longer(X, 'X from X', 'X := X + C - N', declared=['C : constant Integer := 5', 'N : constant := 2 ** 100 - 2 ** 100 + 1']), 'X = 2', 'X = 6')
 
 
+def runs_of_universal_powers():
+    """The power of a number is computed in the type that it meets: what fits 64 bits and not 32 is right in one type, and a fault in the other."""
+    types = [BIG, LONG, HUES, 'V : Big', 'W : Long']
+    halves, signs = 'A : in Integer; H, L : out Integer', 'A : in Integer; X, Y : out Boolean'
+
+    def split(value, declared='V'):
+        return longer(halves, 'H, L from A', f'{declared} := {value}', f'H := Integer ({declared} / 2 ** 32)', f'L := Integer ({declared} mod 2 ** 31)', declared=types)
+
+    def tried(*statements, params=A_TO_X, derives='X from A'):
+        return longer(params, derives, *statements, declared=types)
+
+    # The high part is the value by 2 ** 32, and the low part what is left by 2 ** 31.
+    for label, value, a, high, low in (
+            ('in_a_long_type', '2 ** A', 40, 256, 0), ('of_the_widest_integer', '2147483647 ** A', 1, 0, 2147483647), ('that_fits_an_integer', '2 ** A', 10, 0, 1024),
+            ('to_zero', '4294967296 ** A', 0, 0, 1), ('of_a_wide_number', '4294967296 ** A', 1, 1, 0), ('with_a_sum', '1 + 2 ** A', 33, 2, 1), ('with_a_difference', '2 ** A - 1', 32, 0, 2147483647),
+            ('in_a_product', '4294967296 * 2 ** A', 8, 256, 0), ('under_a_sign', '-(2 ** A)', 40, -256, 0), ('under_abs', 'abs ((-2) ** A)', 39, 128, 0), ('in_a_quotient', '1099511627776 / 2 ** A', 5, 8, 0),
+            ('in_a_mod', '2 ** A mod 4294967297', 32, 1, 0), ('of_a_sum', '(1 + 1) ** A', 35, 8, 0), ('in_an_exponent', '2 ** (2 ** A)', 5, 1, 0), ('of_a_power', '(2 ** A) ** 4', 10, 256, 0)):
+        yield ended(f'run_of_a_power_{label}.adb', split(value), f'A = {a}', f'H = {high}', f'L = {low}')
+    yield ended('run_of_a_power_in_64_bits.adb', split('2 ** A', 'W'), 'A = 62', 'H = 1073741824', 'L = 0')
+    yield ended('run_of_a_power_at_the_first_of_64_bits.adb', split('(-2) ** A', 'W'), 'A = 63', 'H = -2147483648', 'L = 0')
+    yield faulted('run_of_a_power_past_64_bits.adb', split('2 @** A', 'W'), 'A = 63', 'overflow')
+    yield faulted('run_of_a_power_past_its_type.adb', split('2 @** A'), 'A = 41', 'range')
+    yield faulted('run_of_a_power_past_64_bits_of_a_type.adb', split('2 @** A'), 'A = 2147483647', 'overflow')
+    yield faulted('run_of_a_sign_past_64_bits.adb', split('@-((-2) ** A)', 'W'), 'A = 63', 'overflow')
+    yield faulted('run_of_a_product_past_64_bits.adb', split('4294967296 @* 2 ** A', 'W'), 'A = 31', 'overflow')
+    yield faulted('run_of_a_negative_exponent.adb', split('2 ** @A'), 'A = -1', 'range')
+    yield faulted('run_of_an_exponent_past_integer.adb', split('1 ** (2 @** A)'), 'A = 31', 'overflow')
+    yield faulted('run_of_a_power_of_powers_past_64_bits.adb', split('2 @** (2 ** A)'), 'A = 6', 'overflow')
+    for label, value, kind, a in (
+            ('past_integer', '2 @** A', 'overflow', 31), ('past_integer_in_a_sum', '2 ** A @+ 2 ** A', 'overflow', 30), ('past_integer_under_a_sign', '@-((-2) ** A)', 'overflow', 31),
+            ('past_integer_beside_one', '2 @** A + A', 'overflow', 31), ('past_integer_in_a_conversion', 'Integer (2 @** A)', 'overflow', 31),
+            ('past_integer_in_a_qualification', "Integer'(2 @** A)", 'overflow', 31), ('below_zero', '2 ** @A', 'range', -1), ('past_a_conversion', 'Integer (Big (2 @** A))', 'range', 41),
+            ('past_64_bits_in_a_conversion', 'Integer (Big (2 @** A))', 'overflow', 63), ('past_integer_in_val', "Hue'Pos (Hue'Val (2 @** A))", 'overflow', 31),
+            ('past_the_literals_of_val', "Hue'Pos (Hue'Val (2 @** A))", 'range', 2)):
+        yield faulted(f'run_of_a_power_{label}.adb', tried(f'X := {value}'), f'A = {a}', kind)
+    for label, value, a, x in (('of_integer', '2 ** A', 30, 1073741824), ('at_the_first_of_integer', '(-2) ** A', 31, -2147483648), ('in_conversions', 'Integer (Big (2 ** A) / 1024)', 40, 1073741824),
+                               ('in_val', "Hue'Pos (Hue'Val (2 ** A))", 1, 2)):
+        yield ended(f'run_of_a_power_{label}.adb', tried(f'X := {value}'), f'A = {a}', f'X = {x}')
+    # two comparisons, with what is in the types of both sides
+    for label, first, second, a, found in (
+            ('with_a_long_type', '2 ** A > V', 'V < 2 ** A', 41, 'TT'), ('with_an_equal_one', '2 ** A = V', '2 ** A - 1 >= V', 40, 'TF'), ('with_a_number', '2 ** A > 5', '1024 = 2 ** A', 10, 'TT'),
+            ('with_powers', '2 ** A = 4 ** A', '2 ** A < 4 ** A', 15, 'FT'), ('tested_in_a_long_type', '2 ** A in Big', '2 ** A not in Big', 41, 'FT'), ('in_a_long_range', '2 ** A in 0 .. V', 'V in 2 ** A .. 2 ** A + 1', 40, 'TT'),
+            ('in_a_range_of_numbers', '2 ** A in 0 .. 5', '4 in 0 .. 2 ** A', 2, 'TT'), ('in_nested_comparisons', '(2 ** A > 5) = (2 ** A > V)', '2 ** A > V or else 2 ** A > 5', 30, 'FT')):
+        yield ended(f'run_of_a_power_{label}.adb', tried('V := 1099511627776', f'X := {first}', f'Y := {second}', params=signs, derives='X, Y from A'), f'A = {a}',
+                    *(f'{name} = {"True" if truth == "T" else "False"}' for name, truth in zip('XY', found)))
+    for label, condition, a in (
+            ('with_a_number', '2 @** A > 5', 31), ('with_a_number_on_the_left', '5 < 2 @** A', 31), ('with_a_power', '1 ** A < 2 @** A', 31), ('with_a_long_type', '2 @** A > V', 63), ('in_integer', '2 @** A in Integer', 31),
+            ('in_a_long_type', '2 @** A in Big', 63), ('in_a_range_of_numbers', '2 @** A in 0 .. 5', 31), ('in_a_range_after_a_number', '5 in 0 .. 2 @** A', 31), ('in_a_long_range', 'V in 0 .. 2 @** A', 63)):
+        yield faulted(f'fault_of_a_power_{label}.adb', tried('V := 1', f'X := {condition}', 'Y := V > 0', params=signs, derives='X, Y from A'), f'A = {a}', 'overflow')
+    selected = tried('case 2 ** A is when 8 => X := 1; when others => X := 0; end case')
+    yield ended('run_of_a_power_that_selects.adb', selected, 'A = 3', 'X = 1')
+    yield faulted('fault_of_a_power_that_selects.adb', selected.replace('case 2 **', 'case 2 @**'), 'A = 31', 'overflow')
+    turns = tried('X := 0', 'for I in Big range 2 ** A .. 2 ** A + 3 loop X := X + 1; V := I; end loop')
+    yield ended('run_of_powers_for_bounds.adb', turns, 'A = 38', 'X = 4')
+    yield faulted('range_of_powers_for_bounds.adb', turns.replace('range 2 **', 'range 2 @**'), 'A = 40', 'range')
+    yield faulted('overflow_of_powers_for_bounds.adb', turns.replace('range 2 **', 'range 2 @**'), 'A = 63', 'overflow')
+    product = tried('V := V * (2 ** A + 3 ** A)', 'X := Integer (V)').replace('V : Big;', 'V : Big := 3;')
+    yield ended('run_of_two_powers.adb', product, 'A = 2', 'X = 39')
+    yield faulted('fault_of_two_powers.adb', product.replace('3 **', '3 @**'), 'A = 40', 'overflow')
+    # an annotation has no overflow, and its numbers have 128 bits
+    stated = tried('V := 1099511627776', '--# check 2 ** A > 5 and 2 ** A = V and 2 ** (A + A) /= V', 'X := Integer (V / 1024)')
+    yield ended('powers_in_an_annotation.adb', stated, 'A = 40', 'X = 1073741824')
+    yield faulted('powers_in_a_false_annotation.adb', stated.replace('check', '@check'), 'A = 41', 'check')
+    yield too_wide_in_run('powers_past_128_bits_in_an_annotation.adb', stated, 'A = 64')
+
+
 def runs_of_truth_values():
     """Relations, logical operators and membership tests. A short-circuit form evaluates its right side only where it is needed."""
     relations = ('A = B', 'A /= B', 'A < B', 'A <= B', 'A > B', 'A >= B')
@@ -6687,6 +7048,62 @@ def lists_of_checks():
                  (2, 'range', base, lies('(A * 2)', 0, 1099511627776)), (4, 'range', held, lies('(A * 2)')), (3, 'range', [*held, *lies('(A * 2)')], lies('(A * 2)')))
 
 
+def lists_of_universal_powers():
+    """The goals of overflow have the bounds of the base type that the power of a number takes. Its numbers are literals."""
+    start, held = lies('A'), [*lies('A'), 'A >= 0']
+    used = 'X := @Integer (@V)'
+
+    def long(term):
+        return lies(term, *LONG_ENDS)
+
+    def big(term):
+        return lies(term, -1099511627776, 1099511627776)
+
+    def ending_with(term, known, mark, other):
+        """The conditions of the conversion of V to Integer, and of the assignment."""
+        return (other, 'range', known, lies(term)), (mark, 'range', [*known, *lies(term)], lies(term))
+
+    def of_v(*statements):
+        return longer(A_TO_X, 'X from A', *statements, used, declared=[BIG, HUES, 'V, U : Big', 'H : Hue', 'N : constant := 2'])
+
+    power = '(2 ** A)'
+    known = [*held, *long(power), *big(power)]
+    yield listed('power_of_a_long_type_in_a_list.adb', of_v('V := 2 @** @A'), (2, 'range', start, ['A >= 0']), (1, 'overflow', held, long(power)), (1, 'range', [*held, *long(power)], big(power)),
+                 *ending_with(power, known, 3, 4))
+    for label, written, term in (('sum', '1 @+ 2 @** @A', '(1 + (2 ** A))'), ('product', 'N @* 2 @** @A', '(2 * (2 ** A))'), ('sign', '@-(2 @** @A)', '(-(2 ** A))'), ('abs', '@abs (2 @** @A)', '(abs (2 ** A))'),
+                                 ('negative_literal', '(-5) @- 2 @** @A', '((-5) - (2 ** A))'), ('static_sum', '(1 + 1) @* 2 @** @A', '(2 * (2 ** A))')):
+        first = [*held, *long(power)]
+        second = [*first, *long(term)]
+        yield listed(f'power_in_a_{label}_in_a_list.adb', of_v(f'V := {written}'), (3, 'range', start, ['A >= 0']), (2, 'overflow', held, long(power)), (1, 'overflow', first, long(term)), (1, 'range', second, big(term)),
+                     *ending_with(term, [*second, *big(term)], 4, 5))
+    yield listed('power_of_an_integer_in_a_list.adb', longer(A_TO_X, 'X from A', 'X := 2 @** @A @+ 1'), (2, 'range', start, ['A >= 0']), (1, 'overflow', held, lies(power)), (3, 'overflow', [*held, *lies(power)], lies('((2 ** A) + 1)')),
+                 (3, 'range', [*held, *lies(power), *lies('((2 ** A) + 1)')], lies('((2 ** A) + 1)')))
+    outer = '(2 ** (2 ** A))'
+    inner = [*held, *lies(power)]
+    below = [*inner, '(2 ** A) >= 0']
+    yield listed('power_in_an_exponent_in_a_list.adb', of_v('V := 2 @** @(2 @** @A)'), (4, 'range', start, ['A >= 0']), (3, 'overflow', held, lies(power)), (2, 'range', inner, ['(2 ** A) >= 0']), (1, 'overflow', below, long(outer)),
+                 (1, 'range', [*below, *long(outer)], big(outer)), *ending_with(outer, [*below, *long(outer), *big(outer)], 5, 6))
+    for label, written in (('conversion', '@Big (2 @** @A)'), ('qualification', "@Big'(2 @** @A)")):
+        yield listed(f'power_in_a_{label}_in_a_list.adb', of_v(f'V := {written}'), (3, 'range', start, ['A >= 0']), (2, 'overflow', held, long(power)), (2, 'range', [*held, *long(power)], big(power)),
+                     (1, 'range', known, big(power)), *ending_with(power, known, 4, 5))
+    for label, condition, fact, bounds in (
+            ('beside_a_long_type', '2 @** @A > U', ['(2 ** A) > 5'], long), ('after_a_long_type', 'U = 2 @** @A', ['5 = (2 ** A)'], long), ('beside_a_number', '2 @** @A > 5', ['(2 ** A) > 5'], lies),
+            ('in_a_long_type', '2 @** @A in Big', ['(2 ** A) >= -1099511627776', '(2 ** A) <= 1099511627776'], long), ('in_natural', '2 @** @A in Natural', ['(2 ** A) >= 0', '(2 ** A) <= 2147483647'], lies),
+            ('in_a_long_range', '2 @** @A in 0 .. U', ['(2 ** A) >= 0', '(2 ** A) <= 5'], long), ('in_a_range_of_numbers', '2 @** @A in 0 .. 5', ['(2 ** A) >= 0', '(2 ** A) <= 5'], lies),
+            ('for_a_bound_of_a_test', 'U in 0 .. 2 @** @A', ['5 >= 0', '5 <= (2 ** A)'], long)):
+        five = [*start, *big('5')]
+        under = [*five, 'A >= 0', *bounds(power)]
+        arms = longer(A_TO_X, 'X from A', 'U := @5', f'if {condition} then X := @1; else X := @Integer (@U); end if', declared=[BIG, 'U : Big'])
+        negated = f'not ({fact[0]})' if len(fact) == 1 else f'not (({fact[0]}) and ({fact[1]}))'
+        yield listed(f'power_{label}_in_a_list.adb', arms, (1, 'range', start, big('5')), (3, 'range', five, ['A >= 0']), (2, 'overflow', [*five, 'A >= 0'], bounds(power)),
+                     (4, 'range', list(dict.fromkeys([*under, *fact])), lies('1')), (6, 'range', [*under, negated], lies('5')), (5, 'range', [*under, negated, *lies('5')], lies('5')))
+    selected = longer(A_TO_X, 'X from A', 'case 2 @** @A is when 8 => X := @1; when others => X := @0; end case')
+    under = [*held, *lies(power)]
+    yield listed('power_that_selects_in_a_list.adb', selected, (2, 'range', start, ['A >= 0']), (1, 'overflow', held, lies(power)), (3, 'range', [*under, '(2 ** A) = 8'], lies('1')), (4, 'range', [*under, 'not ((2 ** A) = 8)'], lies('0')))
+    yield listed('power_in_val_in_a_list.adb', longer(A_TO_X, 'X from A', "H := @Hue'Val (2 @** @A)", "X := @Hue'Pos (H)", declared=[HUES, 'H : Hue']), (3, 'range', start, ['A >= 0']), (2, 'overflow', held, lies(power)),
+                 (2, 'range', under, lies(power, 0, 2)), (1, 'range', [*under, *lies(power, 0, 2)], lies(power, 0, 2)), (4, 'range', [*under, *lies(power, 0, 2)], lies(power)))
+
+
 def lists_of_values_on_entry():
     """`X~` is the value on entry of what is exported; after a cut `X` is its value there. What is not exported, and a local, is `Y`."""
     text = longer('A : in Integer; X : in out Integer; Y : out Integer', 'X, Y from A & null from X', 'T := @A', 'Y := @A', 'X := @T', '--# @assert X = A and X~ /= Y', 'X := @X', pre='A > X', post='X = X~ or Y > A', declared=T).replace('post', '@post')
@@ -6783,7 +7200,9 @@ GROUPS = (form, relations, simplifier, numbers, places, words, layout, comments,
           mixed_chains, membership_tests, predefined_names, types_of_operands, truth_values, natural_and_positive,
           null_from, levels_of_operators, nodes_of_operators, ranges_of_types, names_of_declarations, declared_subtypes,
           declared_constants, assigned_constants, matching_types, enumerations, values_of_declarations, conditions_of_types,
-          powers_of_types, conditions_of_enumerations, flow_of_types, levels_of_declarations, syntax_of_declarations,
+          powers_of_types, universal_powers_of_right_sides, universal_powers_beside_operands, universal_powers_in_relations,
+          universal_powers_in_tests, universal_powers_of_bounds, universal_powers_that_meet_nothing, universal_powers_that_should_be_static,
+          universal_powers_in_annotations, checks_of_universal_powers, conditions_of_enumerations, flow_of_types, levels_of_declarations, syntax_of_declarations,
           breaches_of_declarations, functions_of_types, conditions_of_functions, flow_of_functions, syntax_of_functions,
           initial_values, values_of_choices, rules_of_choices, conditions_of_cases, flow_of_cases, syntax_of_cases,
           places_of_checks, syntax_of_checks, syntax_of_predicates, cut_and_spoiled, rules_of_predicates, flow_of_checks,
@@ -6791,9 +7210,9 @@ GROUPS = (form, relations, simplifier, numbers, places, words, layout, comments,
           syntax_of_loops, rules_of_loops, flow_of_loops, unset_in_loops, conditions_of_loops, paths_of_loops,
           syntax_of_counts, rules_of_counts, flow_of_counts, unset_in_counts, conditions_of_counts, paths_of_counts,
           syntax_of_exits, rules_of_exits, flow_of_exits, unset_at_exits, conditions_of_exits, paths_of_exits,
-          worked_runs, runs_of_operators, runs_of_types, runs_of_truth_values, runs_that_read_unset_variables, runs_of_annotations, bits_of_runs,
+          worked_runs, runs_of_operators, runs_of_types, runs_of_universal_powers, runs_of_truth_values, runs_that_read_unset_variables, runs_of_annotations, bits_of_runs,
           runs_of_branches, runs_of_loops, entries_of_runs, phases_of_runs, forms_of_inputs, bad_lines, imports_of_inputs, words_of_commands,
-          worked_lists, lists_of_terms, lists_of_checks, lists_of_values_on_entry, lists_of_branches, lists_of_loops, phases_of_lists)
+          worked_lists, lists_of_terms, lists_of_checks, lists_of_universal_powers, lists_of_values_on_entry, lists_of_branches, lists_of_loops, phases_of_lists)
 CASES = tuple(case for group in GROUPS for case in group())
 
 
