@@ -1290,25 +1290,67 @@ def common_kind(kinds):
     return None if others or (is_universal and kind.values != 'numbers') else kind
 
 
-def meets(expression, kind):
-    """N12: a universal value lies in the base range of the kind that it meets."""
-    require('N12', expression.place, expression.kind is not UNIVERSAL or kind.has(expression.value))
+def is_open(expression):
+    """Whether an expression is universal and not static: a power in it has an exponent that is not static."""
+    return expression.kind is UNIVERSAL and expression.value is None
 
 
-def must_match(expression, kind):
+def taking(expression, kind):
+    """The expression where it meets this kind. An open one takes it, with all its operations.
+
+    N12: what is universal and static lies in its base range: the expression itself, or the largest parts of an open one. Exponents
+    are no parts of it, since they have met Integer.
+    """
+    if expression.kind is not UNIVERSAL or kind is UNIVERSAL:
+        return expression
+    if not is_open(expression):
+        require('N12', expression.place, kind.has(expression.value))
+        return expression
+    is_power = isinstance(expression, Operation) and expression.operator == '**'
+    parts = [part if is_power and part is expression.right else taking(part, kind) for part in parts_of(expression)]
+    return replace(with_parts(expression, parts), kind=kind)
+
+
+def with_parts(tree, parts):
+    """An operation, a membership test or parentheses over other parts."""
+    if isinstance(tree, Operation):
+        return replace(tree, left=parts[0], right=parts[1])
+    if isinstance(tree, Prefix):
+        return replace(tree, operand=parts[0])
+    if isinstance(tree, Membership):
+        low, high = parts[1:] or (None, None)
+        return replace(tree, tested=parts[0], low=low, high=high)
+    return replace(tree, inner=parts[0])
+
+
+def meeting_nothing(expression):
+    """An open expression is an Integer where it meets nothing."""
+    return taking(expression, INTEGER) if is_open(expression) else expression
+
+
+def matching(expression, kind):
     """N10: the expression is of this kind, or universal where that is one of numbers. N12: it lies in its base range then."""
     require('N10', expression.place, common_kind((expression.kind, kind)) is kind)
-    meets(expression, kind)
+    return taking(expression, kind)
 
 
 def met_kind(tree, values, others=()):
-    """N10: all operands, and these others, are of one kind, which has such values. N12: a universal one lies in it."""
-    operands = parts_of(tree)
-    kind = common_kind(part.kind for part in operands + others)
+    """N10: all operands, and these others, are of one kind, which has such values."""
+    kind = common_kind(part.kind for part in parts_of(tree) + others)
     require('N10', tree.place, kind is not None and kind.values in values)
-    for operand in operands:
-        meets(operand, kind)
     return kind
+
+
+def over_kind(tree, kind):
+    """The tree with operands that have met a kind. N12: a universal one lies in its base range."""
+    return with_parts(tree, [taking(part, kind) for part in parts_of(tree)])
+
+
+def compared(tree, kind):
+    """The Boolean tree with operands that have met a kind. Among universal ones an open one is an Integer, and they meet that."""
+    if kind is UNIVERSAL and any(map(is_open, parts_of(tree))):
+        kind = INTEGER
+    return replace(over_kind(tree, kind), kind=BOOLEAN)
 
 
 def taken_by(operator):
@@ -1320,42 +1362,33 @@ def taken_by(operator):
     return ('numbers', 'literals') if operator in RELATIONS else ('numbers',)
 
 
-def kind_of_operation(tree):
-    """What the operands are, but for relations, which are Boolean."""
+def typed_operation(tree):
+    """The result is what the operands are, but for relations, which are Boolean."""
     if tree.operator == '**':
-        return kind_of_power(tree)
+        return typed_power(tree)
     kind = met_kind(tree, taken_by(tree.operator))
-    return BOOLEAN if tree.operator in RELATIONS else kind
+    return compared(tree, kind) if tree.operator in RELATIONS else replace(over_kind(tree, kind), kind=kind)
 
 
-def kind_of_power(tree):
-    """N10: the base is a number, and the exponent an Integer.
-
-    N12: a universal base is an Integer where the exponent is not static, and a universal exponent always is one.
-    """
-    base, exponent = tree.left, tree.right
-    require('N10', tree.place, base.kind.values == 'numbers' and exponent.kind in (UNIVERSAL, INTEGER))
-    is_universal = base.kind is UNIVERSAL and exponent.value is not None
-    if not is_universal:
-        meets(base, INTEGER)
-    meets(exponent, INTEGER)
-    return INTEGER if base.kind is UNIVERSAL and not is_universal else base.kind
+def typed_power(tree):
+    """N10: the base is a number, and the exponent an Integer. N12: a universal exponent lies in that. The result is what the base is."""
+    require('N10', tree.place, tree.left.kind.values == 'numbers' and tree.right.kind in (UNIVERSAL, INTEGER))
+    return replace(tree, right=taking(tree.right, INTEGER), kind=tree.left.kind)
 
 
-def kind_of_prefix(tree):
-    """N10: the operand fits the operator. The kind of the result is that of the operand."""
+def typed_prefix(tree):
+    """N10: the operand fits the operator. The result is what the operand is."""
     require('N10', tree.place, tree.operand.kind.values == ('truths' if tree.operator == 'not' else 'numbers'))
-    return tree.operand.kind
+    return replace(tree, kind=tree.operand.kind)
 
 
-def kind_of_membership(tree):
+def typed_membership(tree):
     """Boolean: what is tested has no truth values, and is of the kind of the bounds, or of the type."""
-    met_kind(tree, ('numbers', 'literals'), (tree.type_mark,) if tree.type_mark else ())
-    return BOOLEAN
+    return compared(tree, met_kind(tree, ('numbers', 'literals'), (tree.type_mark,) if tree.type_mark else ()))
 
 
-KINDS = {Operation: kind_of_operation, Prefix: kind_of_prefix, Membership: kind_of_membership,
-         Parenthesized: lambda tree: tree.inner.kind}
+TYPED = {Operation: typed_operation, Prefix: typed_prefix, Membership: typed_membership,
+         Parenthesized: lambda tree: replace(tree, kind=tree.inner.kind)}
 
 
 def judged(tree):
@@ -1363,16 +1396,16 @@ def judged(tree):
 
     N12: an operation on static operands fails no check, and its value lies in the base range of its kind.
     """
-    kind = KINDS[type(tree)](tree)
+    tree = TYPED[type(tree)](tree)
     values = [part.value for part in parts_of(tree)]
     if any(value is None for value in values):
-        return replace(tree, kind=kind)
+        return tree
     if isinstance(tree, Operation):
         require('N12', tree.place, tree.operator not in DIVISIONS or values[1] != 0)
         require('N12', tree.place, tree.operator != '**' or values[1] >= 0)
     value = computed_value(tree, values)
-    require('N12', tree.place, kind.has(value))
-    return replace(tree, kind=kind, value=value)
+    require('N12', tree.place, tree.kind.has(value))
+    return replace(tree, value=value)
 
 
 # ---------------------------------------------------------------- the walk of names and types
@@ -1525,12 +1558,10 @@ class Resolver:
 
     def bound(self, tree, subtype):
         """A bound of a range of a type. N12: it lies in its base range."""
-        found = self.static(tree, subtype.kind)
-        meets(found, subtype.kind)
-        return found
+        return taking(self.static(tree, subtype.kind), subtype.kind)
 
     def static(self, tree, kind=None):
-        """An expression of a kind, or a number of any one. N10: it is such a one. N11: it is static."""
+        """An expression of a kind, or a number of any one. N10: it is such a one, which a universal one is too. N11: it is static."""
         found = self.expression(tree)
         is_fit = common_kind((found.kind, kind)) is kind if kind else found.kind.values == 'numbers'
         require('N10', found.place, is_fit)
@@ -1586,7 +1617,7 @@ class Resolver:
 
     def condition(self, tree):
         """N10: an annotation, and the condition of an `if`, a `while` or an exit, is Boolean."""
-        found = self.expression(tree)
+        found = meeting_nothing(self.expression(tree))
         require('N10', found.place, found.kind is BOOLEAN)
         return found
 
@@ -1625,9 +1656,8 @@ class Resolver:
             return Plain(tree.place, self.statements(tree.statements))
         if isinstance(tree, Exit):
             return Exit(tree.place, tree.condition and self.condition(tree.condition))
-        target, value = self.variable(tree.target, 'constant'), self.expression(tree.value)
-        must_match(value, target.kind)
-        return Assignment(target, value)
+        target = self.variable(tree.target, 'constant')
+        return Assignment(target, matching(self.expression(tree.value), target.kind))
 
     def counting(self, tree):
         """The parameter of a loop is declared for its statements, and hidden in what is said of it. N10: its type has an order.
@@ -1637,7 +1667,7 @@ class Resolver:
         self.begin([tree.name])
         subtype = self.subtype(tree.type_mark)
         require('N10', tree.type_mark.place, subtype.kind is not BOOLEAN)
-        low, high = [bound and self.matching(bound, subtype.kind) for bound in (tree.low, tree.high)]
+        low, high = [bound and matching(self.expression(bound), subtype.kind) for bound in (tree.low, tree.high)]
         del self.spelled[tree.name.word()]
         word = f'{tree.name.word()} {len(self.parameters) + 1}'
         self.parameters[word], self.spelled[word] = subtype, tree.name.text
@@ -1645,12 +1675,6 @@ class Resolver:
         statements = self.statements(tree.statements)
         del self.scope[tree.name.word()]
         return For(tree.place, tree.name, tree.is_reverse, subtype, low, high, statements, word)
-
-    def matching(self, tree, kind):
-        """An expression that matches a kind."""
-        found = self.expression(tree)
-        must_match(found, kind)
-        return found
 
     def selection(self, tree):
         """N17, before all parts: `others` is last; and where selector and choices break no rule, they are given once."""
@@ -1663,7 +1687,7 @@ class Resolver:
 
     def selector(self, tree):
         """N10: a selector is of a type that has an order."""
-        found = self.expression(tree)
+        found = meeting_nothing(self.expression(tree))
         require('N10', found.place, found.kind is not BOOLEAN)
         return found
 
@@ -1719,15 +1743,19 @@ class Resolver:
     def mapped(self, tree, operand):
         """N10: the operand is a number of any kind for a conversion and `Val`, and else of the type.
 
-        N12: a universal one then lies in the type; and a static result lies in its bounds, which are those of the subtype for
-        a conversion and a qualification, and of the whole type for a function but `Pos`.
+        An open one takes the type, and is an Integer for a function. N12: a universal one then lies in the type; and a static
+        result lies in its bounds, which are those of the subtype for a conversion and a qualification, and of the whole type for a
+        function but `Pos`.
         """
         subtype, designator = self.denoted(tree.name).subtype, tree.designator and tree.designator.word()
         kind = subtype.kind
+        if designator:
+            operand = meeting_nothing(operand)
         if designator == 'val' or not (designator or tree.is_qualified):
             require('N10', operand.place, operand.kind.values == 'numbers')
+            operand = taking(operand, kind) if is_open(operand) else operand
         else:
-            must_match(operand, kind)
+            operand = matching(operand, kind)
         bounds = kind if designator else subtype
         is_free = designator == 'pos' or kind is BOOLEAN
         tree = replace(tree, operand=operand, more=FUNCTIONS[designator] if designator else 0,
