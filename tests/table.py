@@ -4673,15 +4673,15 @@ TOO_FAR, TOO_LOW = '9223372036854775808', '(-9223372036854775809)'
 LONG_ENDS = (-9223372036854775808, 9223372036854775807)
 
 
-def powered(statement, declared=''):
-    """The text of a procedure with this statement over the types of `POWERS`, and with a declaration after them."""
-    return declaring(f'{POWERS}; {declared}' if declared else POWERS, statement)
+def powered(*statements, declared=''):
+    """The text of a procedure with these statements over the types of `POWERS`, and with a declaration after them."""
+    return declaring(f'{POWERS}; {declared}' if declared else POWERS, *statements)
 
 
 def powers_kept(what, cases):
     """Statements that keep all rules on names and types, so that the first breach is in the statement after them."""
     for name, statement in cases.items():
-        yield refused(f'power_{what}_{name}.adb', powered(f'{statement}; X := @Y'), 'N1')
+        yield refused(f'power_{what}_{name}.adb', powered(statement, 'X := @Y'), 'N1')
 
 
 def powers_refused(what, cases):
@@ -4895,7 +4895,7 @@ def universal_powers_that_should_be_static():
             'a_named_number_by_an_exponent': ('N12', 'Q : constant := 2 ** (@2147483648 ** A)'), 'a_named_number_by_a_wide_exponent': ('N11', f'Q : constant := {TOO_FAR} @** (2147483647 ** A)'),
             'a_constant_by_a_conversion': ('N12', 'Q : constant Integer := Integer (@2147483648 ** A)'), 'a_bound_by_a_conversion': ('N11', 'type Q is range 0 .. @Integer (2 ** A)'),
             'a_bound_by_a_sum': ('N12', f'type Q is range 0 .. V + @{TOO_FAR} ** A')}.items():
-        yield refused(f'power_that_is_not_static_for_{name}.adb', powered('null', declared), rule)
+        yield refused(f'power_that_is_not_static_for_{name}.adb', powered('null', declared=declared), rule)
     for name, (rule, selector, choice) in {
             'choice': ('N11', 'X', '2147483648 @** A'), 'long_choice': ('N11', 'V', f'{TOO_FAR} @** A'), 'high_choice': ('N11', 'X', '1 .. @-2 ** A'), 'choice_of_literals': ('N10', 'H', '2 @** A'),
             'choice_for_a_number': ('N11', '5', '2 @** A'), 'choice_for_a_power': ('N11', '2 ** A', '2147483648 @** A'), 'choice_by_a_sum': ('N12', 'X', 'X + @2147483648 ** A'),
