@@ -31,7 +31,7 @@ from typing import Optional
 import reading
 from random_texts import CONSTANT_NAMES, LOGICAL, PREDEFINED, PRODUCTS, RELATIONS, Declarer, Writer
 from reading import (BOOLEAN, DIVISIONS, EVERYWHERE, INTEGER, SHORT_CIRCUIT, UNIVERSAL, Applied, Case, ConstantDeclaration, EnumerationDeclaration,
-                     Finding, For, Membership, Operation, Parenthesized, Parser, Place, Prefix, RangeDeclaration, Refused, Resolver, Scanner,
+                     Finding, For, Kind, Membership, Operation, Parenthesized, Parser, Place, Prefix, RangeDeclaration, Refused, Resolver, Scanner,
                      SubtypeDeclaration, TooManyTokens, TooNested, VariableDeclaration, fits, require, require_rules)
 from table import CASES, can_stand, entry
 
@@ -750,40 +750,38 @@ def is_outside(difference):
     return not difference.is_missed and all(re.match('(minimum|maximum) allowed choice value is', message) for message in difference.messages)
 
 
-# ---------------------------------------------------------------- what spx should accept
+# ---------------------------------------------------------------- what spx could read as Ada does
+
+# The type root integer, which a number of 128 bits fits here.
+ROOT = Kind('numbers', UNIVERSAL.first, UNIVERSAL.last)
+
 
 class Lenient(Watched):
-    """Reads a procedure as Ada has it in some points, which are functions of the list KNOWN."""
+    """Reads a procedure as Ada has it in some points, which are functions of the lists."""
 
     def __init__(self, tree, points):
         super().__init__(tree)
         self.points = points
 
     def mapped(self, tree, operand):
-        """A position is a universal number."""
+        """The operand of a conversion is of the type root integer where it is not static; and a position is a universal number."""
+        if is_root in self.points and not (tree.designator or tree.is_qualified):
+            operand = reading.meeting_nothing(operand)
         found = super().mapped(tree, operand)
         is_such = is_position in self.points and tree.designator and tree.designator.word() == 'pos'
         return replace(found, kind=UNIVERSAL) if is_such else found
 
     def chosen(self, tree, kind):
         """Where the selector is universal, a choice is of any integer type."""
-        if is_choice in self.points and kind is UNIVERSAL:
+        if is_choice in self.points and kind in (UNIVERSAL, ROOT):
             return self.static(tree)
         return super().chosen(tree, kind)
 
 
-def lenient_power(tree):
-    """A power of a universal number is universal."""
-    is_such = tree.operator == '**' and tree.left.kind is UNIVERSAL and tree.right.value is None and tree.right.kind is INTEGER
-    return UNIVERSAL if is_such else reading.kind_of_operation(tree)
-
-
 def finding_in_ada(subject, *points):
     """What the second reading would report of rules N, if it read these points as Ada has them."""
-    before = reading.meets, reading.KINDS[Operation]
-    reading.meets = lambda expression, kind: expression.value is None or before[0](expression, kind)
-    if is_power in points:
-        reading.KINDS[Operation] = lenient_power
+    before = reading.ALONE
+    reading.ALONE = ROOT if is_root in points else before
     try:
         for tree in subject.trees:
             Lenient(tree, points).run()
@@ -791,20 +789,24 @@ def finding_in_ada(subject, *points):
     except Refused as refused:
         return refused.findings[0]
     finally:
-        reading.meets, reading.KINDS[Operation] = before
+        reading.ALONE = before
 
 
-def is_settled(difference, *points):
+def is_settled(difference, *points, rules=('N10',)):
     """Whether spx and GNAT would agree, if spx read these points as Ada has them."""
     found = finding_in_ada(difference.subject, *points)
     if difference.is_missed:
-        return difference.subject.finding.rule == 'N10' and found != difference.subject.finding
+        return difference.subject.finding.rule in rules and found != difference.subject.finding
     return bool(found) and found.place.line == difference.line
 
 
-def is_power(difference):
-    """`2 ** N` is an Integer for spx where N is a variable. In Ada the 2 is of each integer type that fits (RM 4.5.6)."""
-    return is_settled(difference, is_power)
+def is_root(difference):
+    """`2 ** N` where N is a variable is an Integer for spx where it meets no type. In Ada it is then of the type root integer (RM 8.6).
+
+    Its range is that of the longest type, and a `case` over it has choices of any integer type. An operand of a conversion meets no
+    type in Ada, and the type that is named in spx.
+    """
+    return is_settled(difference, is_root, rules=('N12',)) or (not is_choice(difference) and is_settled(difference, is_root, is_choice))
 
 
 def is_position(difference):
@@ -818,8 +820,9 @@ def is_choice(difference):
 
 
 PROFILE = (is_annotation, is_later, is_of_types, is_of_files, is_in_standard, is_predefined, is_loop_parameter, is_overloaded, is_other_attribute, is_of_truths,
-           is_conversion, is_not_static, is_null_range, is_outside_parent, is_longer, is_part, is_wide, is_not_evaluated, is_too_large, is_outside, is_base)
-KNOWN = (is_power, is_position, is_choice)
+           is_conversion, is_not_static, is_null_range, is_outside_parent, is_longer, is_part, is_wide, is_not_evaluated, is_too_large, is_outside, is_base,
+           is_root)
+KNOWN = (is_position, is_choice)
 
 
 def reason_for(difference):

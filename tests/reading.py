@@ -335,6 +335,8 @@ class Kind:
 UNIVERSAL = Kind('numbers', -WIDE, WIDE - 1)
 INTEGER = Kind('numbers', INTEGER_FIRST, INTEGER_LAST)
 BOOLEAN = Kind('truths')
+# What an open expression takes where it meets nothing: a universal one that is not static.
+ALONE = INTEGER
 
 
 @dataclass(frozen=True)
@@ -1312,10 +1314,10 @@ def taking(expression, kind):
 
 
 def with_parts(tree, parts):
-    """An operation, a membership test or parentheses over other parts."""
+    """The expression with these in the place of what `parts_of` says."""
     if isinstance(tree, Operation):
         return replace(tree, left=parts[0], right=parts[1])
-    if isinstance(tree, Prefix):
+    if isinstance(tree, (Prefix, Applied)):
         return replace(tree, operand=parts[0])
     if isinstance(tree, Membership):
         low, high = parts[1:] or (None, None)
@@ -1324,8 +1326,8 @@ def with_parts(tree, parts):
 
 
 def meeting_nothing(expression):
-    """An open expression is an Integer where it meets nothing."""
-    return taking(expression, INTEGER) if is_open(expression) else expression
+    """An open expression is an Integer where it meets nothing. A static one meets nothing either, and is left as it is."""
+    return taking(expression, ALONE) if is_open(expression) else expression
 
 
 def matching(expression, kind):
@@ -1349,7 +1351,7 @@ def over_kind(tree, kind):
 def compared(tree, kind):
     """The Boolean tree with operands that have met a kind. Among universal ones an open one is an Integer, and they meet that."""
     if kind is UNIVERSAL and any(map(is_open, parts_of(tree))):
-        kind = INTEGER
+        kind = ALONE
     return replace(over_kind(tree, kind), kind=BOOLEAN)
 
 
