@@ -30,7 +30,7 @@ from typing import Optional
 
 import reading
 from random_texts import CONSTANT_NAMES, LOGICAL, PREDEFINED, PRODUCTS, RELATIONS, Declarer, Writer
-from reading import (BOOLEAN, DIVISIONS, EVERYWHERE, INTEGER, SHORT_CIRCUIT, UNIVERSAL, Applied, Case, ConstantDeclaration, EnumerationDeclaration,
+from reading import (BOOLEAN, DIVISIONS, EVERYWHERE, INTEGER, LONG_FIRST, LONG_LAST, SHORT_CIRCUIT, UNIVERSAL, Applied, Case, ConstantDeclaration, EnumerationDeclaration,
                      Finding, For, Kind, Membership, Operation, Parenthesized, Parser, Place, Prefix, RangeDeclaration, Refused, Resolver, Scanner,
                      SubtypeDeclaration, TooManyTokens, TooNested, VariableDeclaration, fits, require, require_rules)
 from table import CASES, can_stand, entry
@@ -122,10 +122,17 @@ class Typed(Writer):
         other = self.a_type()
         operand = self.of_base(other.base, variables, depth)
         exponent = self.random.choice(self.exponents(variables))
+        number, other_number = (self.random.choice(self.universal_bases()) for _ in range(2))
         return self.random.choice((f'{left} {self.random.choice("+-")} {right}', f'{left} {self.random.choice("+-")} {right}',
                                    f'{left} {self.random.choice(PRODUCTS)} {right}', f'{left} ** {exponent}',
-                                   f'{self.random.choice(("2", "2", "10", "1"))} ** {exponent}', f'-{left}', f'abs {left}', f"{mark}'{left}", f'{mark} {left}',
+                                   f'{number} ** {exponent}', f'{number} ** {exponent} {self.random.choice("+-*")} {other_number}',
+                                   f'-{left}', f'abs {left}', f"{mark}'{left}", f'{mark} {left}',
                                    f"{mark} ({operand})", f"{other.name}'Pos ({operand})"))
+
+    def universal_bases(self):
+        """Numbers that mostly fit each type, and named numbers."""
+        numbers = tuple(name for name, base, value in self.declared.constants if base is None and abs(value) < 2**40)
+        return ('2', '2', '2', '10', '1', '(1 + 1)', '4294967296') + numbers
 
     def exponents(self, variables):
         """Small exponents, and variables: a huge static one takes a compiler long."""
@@ -487,10 +494,11 @@ def compiled(subject, **options):
 
 # What GNAT says of a line where a rule is broken; of N12 and N13 also what it warns of.
 SAID = {
-    'N1': 'is undefined|cannot be used before end|not visible',
+    'N1': 'is undefined|cannot be used before end|not visible|unrecognized attribute',
     'N2': 'conflicts with declaration',
-    'N3': 'declared|subtype mark|subtype name|attribute|missing argument|procedure name|expected type|undefined|must be a variable|used before end|array type required|is not a',
-    'N5': 'expected',
+    'N3': 'declared|subtype mark|subtype name|attribute|missing argument|procedure name|expected type|undefined|must be a variable|used before end|array type required|is not a|'
+          'invalid operand types|illegal operand|incompatible types',
+    'N5': 'expected|missing "end',
     'N10': 'expected|found|incompatible|invalid|not defined|illegal operand|no applicable operator|operand|exponent|universal|undefined',
     'N11': 'static',
     'N12': 'range|Constraint_Check|Constraint_Error|zero|raises|too large',
@@ -732,12 +740,12 @@ def is_not_evaluated(difference):
 # ---------------------------------------------------------------- what Ada leaves to a compiler
 
 def is_base(difference):
-    """GNAT takes a shorter base range for a short type. With types made of ones with the base ranges of spx it agrees."""
+    """GNAT takes a shorter base range for a short type. With types made of ones with the base ranges of spx it agrees, but for choices outside."""
     subject = difference.subject
     declared = [tree for procedure in subject.trees for tree in procedure.locals if isinstance(tree, RangeDeclaration)]
     if not declared or difference.line in [tree.name.place.line for tree in declared]:
         return False
-    return all(other.line != difference.line for other in differences(compiled(subject, is_based=True)))
+    return all(other.line != difference.line or is_outside(other) for other in differences(compiled(subject, is_based=True)))
 
 
 def is_too_large(difference):
@@ -745,9 +753,17 @@ def is_too_large(difference):
     return not difference.is_missed and set(difference.messages) == {'static value too large, capacity exceeded'}
 
 
+ALLOWED = re.compile('(minimum|maximum) allowed choice value is (.*)')
+LACKING = re.compile(r'missing case values?: (-?\d+)(?: \.\. (-?\d+))?$')
+
+
 def is_outside(difference):
-    """A choice is outside of the subtype of its selector; spx lets that be (decision 74)."""
-    return not difference.is_missed and all(re.match('(minimum|maximum) allowed choice value is', message) for message in difference.messages)
+    """A choice is outside of the subtype of its selector; spx lets that be (decision 74). GNAT may then lack values that are outside too."""
+    allowed = [ALLOWED.match(message) for message in difference.messages]
+    lacking = [LACKING.match(message) for message, found in zip(difference.messages, allowed) if not found]
+    ends = {found[1]: int(found[2]) for found in allowed if found and re.fullmatch(r'-?\d+', found[2])}
+    return not difference.is_missed and any(allowed) and all(found and (int(found[2] or found[1]) < ends.get('minimum', LONG_FIRST)
+                                                                      or int(found[1]) > ends.get('maximum', LONG_LAST)) for found in lacking)
 
 
 # ---------------------------------------------------------------- what spx could read as Ada does
@@ -780,8 +796,8 @@ class Lenient(Watched):
 
 def finding_in_ada(subject, *points):
     """What the second reading would report of rules N, if it read these points as Ada has them."""
-    before = reading.ALONE
-    reading.ALONE = ROOT if is_root in points else before
+    before = reading.DEFAULT
+    reading.DEFAULT = ROOT if is_root in points else before
     try:
         for tree in subject.trees:
             Lenient(tree, points).run()
@@ -789,7 +805,7 @@ def finding_in_ada(subject, *points):
     except Refused as refused:
         return refused.findings[0]
     finally:
-        reading.ALONE = before
+        reading.DEFAULT = before
 
 
 def is_settled(difference, *points, rules=('N10',)):

@@ -336,7 +336,7 @@ UNIVERSAL = Kind('numbers', -WIDE, WIDE - 1)
 INTEGER = Kind('numbers', INTEGER_FIRST, INTEGER_LAST)
 BOOLEAN = Kind('truths')
 # What an open expression takes where it meets nothing: a universal one that is not static.
-ALONE = INTEGER
+DEFAULT = INTEGER
 
 
 @dataclass(frozen=True)
@@ -1327,7 +1327,7 @@ def with_parts(tree, parts):
 
 def meeting_nothing(expression):
     """An open expression is an Integer where it meets nothing. A static one meets nothing either, and is left as it is."""
-    return taking(expression, ALONE) if is_open(expression) else expression
+    return taking(expression, DEFAULT) if is_open(expression) else expression
 
 
 def matching(expression, kind):
@@ -1351,7 +1351,7 @@ def over_kind(tree, kind):
 def compared(tree, kind):
     """The Boolean tree with operands that have met a kind. Among universal ones an open one is an Integer, and they meet that."""
     if kind is UNIVERSAL and any(map(is_open, parts_of(tree))):
-        kind = ALONE
+        kind = DEFAULT
     return replace(over_kind(tree, kind), kind=BOOLEAN)
 
 
@@ -1745,9 +1745,9 @@ class Resolver:
     def mapped(self, tree, operand):
         """N10: the operand is a number of any kind for a conversion and `Val`, and else of the type.
 
-        An open one takes the type, and is an Integer for a function. N12: a universal one then lies in the type; and a static
-        result lies in its bounds, which are those of the subtype for a conversion and a qualification, and of the whole type for a
-        function but `Pos`.
+        An open one takes the type, and is an Integer for a function. N12: a universal one then lies in the type, and a static result
+        in its bounds. These are those of the subtype for a conversion and a qualification, and of the whole type for a function but
+        `Pos`.
         """
         subtype, designator = self.denoted(tree.name).subtype, tree.designator and tree.designator.word()
         kind = subtype.kind

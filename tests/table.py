@@ -4800,7 +4800,7 @@ def universal_powers_in_relations():
 
 
 def universal_powers_in_tests():
-    """In a membership test the power of a number takes the type that is named, or that of the first of the three that has one."""
+    """In a membership test the power of a number takes the type that is named, or the first that one of the three has."""
     yield from powers_kept('tested', {
         'in_a_long_type': f'F := {FAR} ** A in Big', 'not_in_a_long_subtype': f'F := {LEAST} ** A not in Near', 'in_integer': 'F := 2147483647 ** A in Integer',
         'not_in_natural': 'F := (-2147483648) ** A not in Natural', 'in_a_short_subtype': 'F := 2147483647 ** A in Low',
@@ -4828,7 +4828,7 @@ def universal_powers_in_tests():
 
 
 def universal_powers_of_bounds():
-    """As a bound of a `for` the power of a number takes the base type of its type; in a conversion or a qualification that of the name."""
+    """As a bound of a `for` the power of a number takes its base type. In a conversion or a qualification it takes that of the name."""
     def counted(bounds):
         return f'for I in {bounds} loop null; end loop'
 
@@ -4858,13 +4858,13 @@ def universal_powers_of_bounds():
 
 def universal_powers_that_meet_nothing():
     """The power of a number is an Integer as an exponent, as a selector, as a condition, and where it meets nothing else."""
-    yield from powers_kept('alone', {
+    yield from powers_kept('by_itself', {
         'as_an_exponent': 'V := V ** (2147483647 ** A)', 'as_an_exponent_of_a_number': 'V := 4294967296 ** (2147483647 ** A)',
         'as_an_exponent_of_an_exponent': 'V := 4294967296 ** (2 ** (2 ** A))', 'as_an_exponent_below_zero': 'V := 2 ** (-2 ** A)',
         'as_a_selector': 'case 2 ** A is when 0 => null; when others => null; end case', 'as_a_selector_from_its_last': 'case 2147483647 ** A is when 1 .. 5 => null; when others => null; end case',
         'as_a_selector_with_all_choices': "case 2 ** A is when Integer'First .. -1 => null; when 0 .. 2147483647 => null; end case",
         'as_a_selector_with_a_typed_choice': 'case 2 ** A + 1 is when C => null; when others => null; end case'})
-    yield from powers_refused('alone', {
+    yield from powers_refused('by_itself', {
         'as_an_exponent_past_integer': ('N12', 'V := V ** (@2147483648 ** A)'), 'as_an_exponent_of_a_number_past_integer': ('N12', 'V := 2 ** (@2147483648 ** A)'),
         'as_an_exponent_before_its_base': ('N12', f'V := {TOO_FAR} ** (@2147483648 ** A)'), 'as_an_exponent_by_a_sum': ('N12', 'V := 2 ** (@4294967296 - 2 ** A)'),
         'with_a_wide_exponent': ('N12', f'V := ({TOO_FAR} ** A) ** @2147483648'), 'with_an_exponent_of_another_type': ('N10', 'V := 2 @** V'),
@@ -6427,7 +6427,7 @@ def runs_of_types():
 
 
 def runs_of_universal_powers():
-    """The power of a number is computed in the type that it meets: what fits 64 bits and not 32 is right in one type, and a fault in the other."""
+    """The power of a number is computed in the type that it meets. So what fits only 64 bits is a fault in an Integer."""
     types = [BIG, LONG, HUES, 'V : Big', 'W : Long']
     halves, signs = 'A : in Integer; H, L : out Integer', 'A : in Integer; X, Y : out Boolean'
 
