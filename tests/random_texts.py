@@ -23,6 +23,9 @@ VALUES = ("Integer'First", "Integer'Last", "Natural'First", "Positive'Last", '0'
           '1073741823', '2147483646', '2147483647')
 ODD_VALUES = ('X', 'A', 'Inc', 'Integer', 'True', "Boolean'First", '2147483648', '4294967296', '170141183460469231731687303715884105727')
 TYPES = ('Integer', 'Natural', 'Positive', 'Boolean')
+# Numbers that are taken to the power of a variable, and some that fit 64 bits only.
+BASES = ('2', '2', '2', '2', '2', '2', '10', '3', '1', '0', '(-2)', '(-1)', '(1 + 1)', '46340', '2147483647')
+WIDE_BASES = ('4294967296', '2147483648', '(2 ** 40)', '9223372036854775807')
 FACTORS = ('0', '1', '2', '3', '5', '(-1)', '(-7)', '46340')
 PRODUCTS = ('*', '*', '/', '/', 'mod', 'rem')
 LOGICAL = ('and', 'or', 'xor', 'and then', 'or else')
@@ -169,7 +172,7 @@ class Declarer:
         attributes = tuple(f"{found.name}'First" for found in self.declared.types)
         kind = self.random.random()
         if kind < 0.5:
-            return self.random.choice(variables) + self.random.choice(('', '', ' + 1'))
+            return self.random.choice(('{}', '{}', '{} + 1', '2 ** {}', '5 - 2 ** {}')).replace('{}', self.random.choice(variables))
         if kind < 0.7:
             return self.random.choice(literals + attributes + ('True', '(1 = 1)', '5'))
         return self.random.choice((name, 'Y', 'Integer') if kind < 0.8 else ODD_STATIC)
@@ -483,7 +486,7 @@ class Writer:
         for formal in formals:
             self.types[formal], self.bases[formal] = self.random.choice(('Integer', 'Integer', 'Natural')), 'Integer'
         statements = [statement for local in locals_ for statement in self.uses(local)]
-        conditions = [f'{local} {self.relation_of(local)} {self.near(local)}' for local in locals_]
+        conditions = [f'{local} {self.relation_of(local)} {self.beside(local)}' for local in locals_]
         bodies = [[('X', self.random.choice(('A', 'A', '0', '1', '5') + self.constants()))] for _ in range(2)]
         if self.random.random() < 0.45 and any(self.base_of(local) != 'Boolean' for local in locals_):
             statements.append(self.selection(bodies[0], ('X',), locals_))
@@ -505,7 +508,7 @@ class Writer:
             found = [Branch([(condition, found)], [(local, self.near(local))])]
         if self.is_of_numbers(local) and self.random.random() < 0.6:
             operation = self.random.choice(('{} + 1', '{} - 1', '-{}', 'abs {}', '{} * 2', '{} / 2', '{} mod 3', '{} ** 2', '{} * {}', '2 * {} - 1',
-                                            '{} ** 62'))
+                                            '{} ** 62', '2 ** A', '{} + 2 ** A', '2 ** A - {}', '4294967296 * 2 ** A', '3 ** A * {}'))
             found.append((local, operation.replace('{}', local)))
         return found
 
@@ -527,6 +530,12 @@ class Writer:
             literals = self.declared.literals[found.base]
             return self.random.choice((literals[value % len(literals)], f"{found.name}'First", f"{found.name}'Last"))
         return f'({value})' if value < 0 else str(value)
+
+    def beside(self, local):
+        """A value in the type of a variable, or at times the power of a number, which takes that type."""
+        if self.is_of_numbers(local) and self.random.random() < 0.15:
+            return self.over(self.base_of(local), self.power, ('A',)) or self.near(local)
+        return self.near(local)
 
     def choose_types(self, formals, locals_):
         """A type for each variable. Those of formals are predefined, but for some."""
@@ -703,7 +712,7 @@ class Writer:
         """A bound of a range of a type."""
         ends = [f"{found.name}'First", f"{found.name}'Last", *(name for name in readable if self.base_of(name) == found.base)]
         if not self.is_literal(found.base):
-            ends += ['0', '1', '5', '-3', str(found.low), str(found.high)] if found.low is not None else []
+            ends += ['0', '1', '5', '-3', str(found.low), str(found.high), self.over(found.base, self.power_or_value, readable)] if found.low is not None else []
         end = self.random.choice(ends if self.random.random() < 0.98 else readable)
         return f'{end} {self.random.choice("+-")} 1' if self.random.random() < 0.1 else end
 
@@ -718,6 +727,8 @@ class Writer:
             selector = f"{found.name}'({selector})" if self.random.random() < 0.5 else f'{found.name} ({selector})'
         elif self.random.random() < 0.1:
             selector = self.random.choice((f'({selector})', f'{selector} + 1', f'{selector} mod 3'))
+        elif found.base == 'Integer' and self.random.random() < 0.1:
+            found, selector = PREDEFINED[0], self.power((selector,)) or selector
         choices, has_others = self.choices(found)
         bodies = [[self.other(statement, readable) for statement in statements] if self.random.random() < 0.75 else
                   self.some(formals, readable) for _ in range(len(choices) + has_others)]
@@ -768,7 +779,7 @@ class Writer:
         if self.is_literal(self.base):
             integers = self.over('Integer', self.numbers, variables)
             return self.random.choice((f"{mark}'Succ ({operand})", f"{mark}'Pred ({operand})", f"{mark}'({operand})",
-                                       f"{mark}'Val ({self.random.choice(integers + ('0',))})"))
+                                       f"{mark}'Val ({self.random.choice(integers + ('0', self.over('Integer', self.power, variables) or '0'))})"))
         others = [found for found in self.declared.types if found.base != self.base and (found.base != 'Boolean' or self.random.random() < 0.02)]
         if others and self.random.random() < 0.4:
             other = self.random.choice(others)
@@ -776,7 +787,30 @@ class Writer:
             if inner == operand:
                 return f'{mark} ({operand})'
             return f"{mark} ({other.name}'Pos ({inner}))" if self.is_literal(other.base) else f'{mark} ({inner})'
+        operand = self.random.choice((operand, operand, operand, self.power(variables) or operand))
         return self.random.choice((f'{mark} ({operand})', f'{mark} ({operand})', f"{mark}'({operand})"))
+
+    def power(self, variables):
+        """A term over the power of a number with a variable in its exponent. It takes the type that it meets.
+
+        Its numbers mostly fit the base type that is wanted. It is empty where there is no variable for an exponent.
+        """
+        exponents = self.over('Integer', self.numbers, variables)
+        if not exponents or (self.base == 'Boolean' or self.is_literal(self.base)) and self.random.random() < 0.98:
+            return ''
+        name = self.random.choice(exponents)
+        exponent = self.random.choice((name, name, name, name, name, name, f'({name} mod 31)', f'({name} + 1)', f'(abs {name})', f'(2 ** {name})', '2'))
+        is_wide = any(found.name == self.base and not -2**31 <= found.low <= found.high < 2**31 for found in self.declared.own_types())
+        wide = WIDE_BASES if is_wide or self.random.random() < 0.04 else ()
+        numbers = tuple(constant for constant, of, value in self.declared.constants if of is None and (is_wide or abs(value) < 2**31))
+        power = f'{self.random.choice(BASES + wide * 2 + numbers)} ** {exponent}'
+        number = self.random.choice(('1', '2', '5', '46340') + wide + numbers)
+        return self.random.choice((power, power, power, power, power, power, f'({power})', f'({power}) ** 2', f'({power} - {number})', f'({number} + {power})', f'{number} * {power}',
+                                   f'{power} {self.random.choice(PRODUCTS)} {number}', f'(-{power})', f'abs ({power})', f'({power} + 3 ** {name})'))
+
+    def power_or_value(self, variables):
+        """Such a power in half of all cases, if there is one, and else a value."""
+        return self.random.choice((self.power(variables), '')) or self.value()
 
     def other(self, statement, readable):
         """A statement that sets what this one sets, with another value."""
@@ -810,8 +844,9 @@ class Writer:
         return tuple(name for name in variables if is_odd or self.base_of(name) == 'Boolean') + constants
 
     def number_in(self, variables):
-        """A variable that is a number, if there is one, or a value."""
-        return self.random.choice(self.numbers(variables) * 2 + (self.value(),))
+        """A variable that is a number, if there is one, or a value; at times the power of a number."""
+        power = self.power(variables) if self.random.random() < 0.03 else ''
+        return f'({power})' if power else self.random.choice(self.numbers(variables) * 2 + (self.value(),))
 
     def truth(self, variables, depth):
         """A truth value over the variables, with logical operators within one another."""
@@ -832,7 +867,7 @@ class Writer:
             return self.membership(variables)
         is_short = self.random.random() < 0.7 or self.is_literal(self.base)
         left = self.number_in(variables) if is_short else self.sum(variables, self.number_in(variables))
-        sides = [left, self.random.choice(self.numbers(variables) + (self.value(),) * 5)]
+        sides = [left, self.random.choice(self.numbers(variables) + (self.value(),) * 5 + (self.power_or_value(variables),))]
         if self.random.random() < 0.2:
             sides.reverse()
         return f' {self.random.choice(RELATIONS)} '.join(sides)
@@ -1035,7 +1070,10 @@ class Writer:
                 + ''.join(f' {self.random.choice("+-")} {operand}' for operand in operands))
 
     def operand(self, variables, operand):
-        """The operand, a term or a factor that begins with it, or a sum in parentheses that does."""
+        """The operand, a term or a factor that begins with it, or such a sum in parentheses; at times the power of a number."""
+        power = self.power(variables) if self.random.random() < 0.025 else ''
+        if power:
+            return power
         kind = self.random.random()
         if kind < 0.12:
             return f'({self.sum(variables, operand)})'
@@ -1110,7 +1148,7 @@ class Writer:
         if self.random.random() < 0.45:
             return self.truth(names, self.random.choice((0, 1, 1, 2)))
         left = self.random.choice(self.numbers(names) + (value, self.sum(names, self.value())))
-        right = self.random.choice(self.numbers(names) + (self.value(),) * 4)
+        right = self.random.choice(self.numbers(names) + (self.value(),) * 4 + (self.power_or_value(names),))
         if self.random.random() < 0.02:
             return left
         sides = [left, right]
