@@ -1,5 +1,7 @@
 #!/usr/bin/env python3
-"""Random static conditions that plain arithmetic makes false, in the form of the table of crates/spx_table.
+"""Random conditions that plain arithmetic makes false, in the form of the table of crates/spx_table.
+
+They are static, but for powers of a variable that are multiplied by 0.
 
 Each is the precondition of a procedure that would overflow without one, so that the procedure is accepted exactly where
 the condition is found to be false. reading.py has to say so too.
@@ -34,8 +36,13 @@ OPERATIONS = {'+': lambda a, b: a + b, '-': lambda a, b: a - b, '*': lambda a, b
               'rem': lambda a, b: a - b * quotient(a, b), 'mod': lambda a, b: a % b}
 
 
+# What a power that is not static has for its base, and for its exponent.
+BASES = ('2', '3', '(-7)', '46340', '2147483647', '(-2147483648)', '(2 ** 31 - 1)')
+EXPONENTS = ('X', 'X', '(X + 1)', '(2 ** X)', '(abs X)')
+
+
 class Values:
-    """Makes static expressions with their values."""
+    """Makes expressions with their values."""
 
     def __init__(self, seed):
         self.random = random.Random(seed)
@@ -67,13 +74,19 @@ class Values:
         return (text, value, is_typed) if lies else operand
 
     def literal(self):
-        """A number, or an attribute."""
+        """A number, an attribute, or a power that is multiplied by 0. That meets no other type than Integer, whose values it goes with."""
+        if self.random.random() < 0.04:
+            return self.random.choice(('(0 * {})', '({} * 0)', '(0 * (-{}))')).replace('{}', self.power()), 0, True
         if self.random.random() < 0.2:
             text, value = self.random.choice(TYPED)
             return text, value, True
         value = self.random.choice((0, 1, 2, 3, 5, 7, 10, 46341, 2**31 - 1, 2**31, self.random.randrange(2**40)))
         text = self.random.choice((str(value), f'16#{value:X}#', f'2#{value:b}#', f'{value}E0', f'{value:_}'))
         return text, value, False
+
+    def power(self):
+        """The power of a number with an exponent that is not static."""
+        return f'{self.random.choice(BASES)} ** {self.random.choice(EXPONENTS)}'
 
     def truth(self, depth):
         """A condition, and whether it is true."""
@@ -105,7 +118,7 @@ class Values:
 
 
 def main():
-    parser = argparse.ArgumentParser(description='Writes random static conditions that are false.')
+    parser = argparse.ArgumentParser(description='Writes random conditions that are false.')
     parser.add_argument('seed', type=int)
     parser.add_argument('count', type=int)
     parser.add_argument('--expected', action='store_true', help='write what must be printed on them instead')
