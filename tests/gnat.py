@@ -667,6 +667,14 @@ def is_conversion(difference):
     return kind.values != 'numbers' and difference.walk().kind_of(tree.operand) is kind
 
 
+def is_type_choice(difference):
+    """A choice is the name of a type, which has all its values in Ada (RM 3.8.1, 5.4). The profile has values and ranges."""
+    if not difference.misses('N3') or word(difference, -1) not in ('when', '|') or word(difference, 1) not in ('|', '=>'):
+        return False
+    entity = difference.walk().scope.get(word(difference)) or difference.walk().outer.get(word(difference))
+    return bool(entity) and entity.sort == 'type'
+
+
 def is_not_static(difference):
     """Ada asks for no static initial value, constant or bound of a subtype; the profile does."""
     tree = difference.inner()
@@ -836,7 +844,7 @@ def is_choice(difference):
 
 
 PROFILE = (is_annotation, is_later, is_of_types, is_of_files, is_in_standard, is_predefined, is_loop_parameter, is_overloaded, is_other_attribute, is_of_truths,
-           is_conversion, is_not_static, is_null_range, is_outside_parent, is_longer, is_part, is_wide, is_not_evaluated, is_too_large, is_outside, is_base,
+           is_conversion, is_type_choice, is_not_static, is_null_range, is_outside_parent, is_longer, is_part, is_wide, is_not_evaluated, is_too_large, is_outside, is_base,
            is_root)
 KNOWN = (is_position, is_choice)
 
