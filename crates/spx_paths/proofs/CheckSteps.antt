@@ -45,8 +45,8 @@ use Rattle.spx_formula.specs.Functions.{shift_in}
 use Rattle.spx_formula.specs.Terms.{member_term, moved_term, now_term, signed_term, term_of}
 use Rattle.spx_paths.specs.Waiting.{Checked, Finds, Gives, Keeps, MeanAll, Means, Whole}
 use Rattle.spx_paths.proofs.BuildLaws.{checks_kept, wider_checks}
-use Rattle.spx_formula.proofs.Expressions.{applied_term, in_range_term, in_type_term, infix_term, parenthesized_term, prefix_term, static_is}
-use Rattle.spx_paths.proofs.CheckLaws.{applied_checks, in_range_checks, in_type_checks, infix_checks, parenthesized_checks, prefix_checks, static_unchecked}
+use Rattle.spx_formula.proofs.Expressions.{applied_term, implicit_term, in_range_term, in_type_term, infix_term, parenthesized_term, prefix_term, static_is}
+use Rattle.spx_paths.proofs.CheckLaws.{applied_checks, implicit_checks, in_range_checks, in_type_checks, infix_checks, parenthesized_checks, prefix_checks, static_unchecked}
 use Rattle.spx_paths.proofs.Operators.{same_lefts}
 
 -- ---- relations between drafts
@@ -192,6 +192,13 @@ module _ {p : Program} {lefts : List TermId} {w : Draft} {e : CoreExpr} where
     gives = λ ls ml.
         let m = v.gives ls ml in
         record { finds = finds_along (parenthesized_checks p (now_term p) e ls place a is) m.finds; means = subst (Means x id) (sym (parenthesized_term (now_term p) (now_term p) e place a is)) m.means };
+  }
+
+  pub eval_implicit : {x : Draft} {id : TermId} (base : BaseType) (place : Place) (a : CoreExpr) → e ≡ expr.Implicit base place a → Checked p lefts w x a id → Checked p lefts w x e id
+  eval_implicit {x} {id} base place a is v = record {
+    gives = λ ls ml.
+        let m = v.gives ls ml in
+        record { finds = finds_along (implicit_checks p (now_term p) e ls base place a is) m.finds; means = subst (Means x id) (sym (implicit_term (now_term p) (now_term p) e base place a is)) m.means };
   }
 
   module _ (none : None ≡ literal e) (are : AreIds (length w.steps.terms) lefts) where

@@ -10,7 +10,7 @@ use Rattle.spx_formula.specs.Terms.{now_term}
 use Rattle.spx_arena.specs.declared.terms.TermId.{TermId}
 use Rattle.spx_paths.specs.declared.draft.Draft.{Draft}
 use Rattle.spx_paths.specs.Waiting.{Checked}
-use Rattle.spx_paths.proofs.CheckSteps.{eval_applied, eval_free, eval_in_range, eval_in_type, eval_infix, eval_parenthesized, eval_prefix, eval_static, id_kept, ids_kept, keeps_twice, only_gives, only_keeps, term_gives, term_keeps}
+use Rattle.spx_paths.proofs.CheckSteps.{eval_applied, eval_free, eval_implicit, eval_in_range, eval_in_type, eval_infix, eval_parenthesized, eval_prefix, eval_static, id_kept, ids_kept, keeps_twice, only_gives, only_keeps, term_gives, term_keeps}
 use Rattle.spx_paths.proofs.CheckLaws.{attribute_free, entry_free, name_free, number_free}
 use Rattle.spx_paths.proofs.draft.Draft.+checked_id.Goals as goal
 
@@ -50,6 +50,9 @@ checked_id-returns-in_ok-code_id-in-Attribute-clause-makes t c = eval_free (term
 
 pub checked_id-returns-in_ok-checked_id-in-Parenthesized-clause-makes : goal.checked_id-returns-in_ok-checked_id-in-Parenthesized-clause-makes
 checked_id-returns-in_ok-checked_id-in-Parenthesized-clause-makes t c = eval_parenthesized c.in-Parenthesized.field-0 c.in-Parenthesized.inner c.in-Parenthesized.is (at_part c.get.ensures c.in_ok-checked_id-in-Parenthesized.ensures.makes)
+
+pub checked_id-returns-in_ok-checked_id-in-Implicit-clause-makes : goal.checked_id-returns-in_ok-checked_id-in-Implicit-clause-makes
+checked_id-returns-in_ok-checked_id-in-Implicit-clause-makes t c = eval_implicit c.in-Implicit.field-0 c.in-Implicit.field-1 c.in-Implicit.operand c.in-Implicit.is (at_part c.get-in-Implicit.ensures c.in_ok-checked_id-in-Implicit.ensures.makes)
 
 pub checked_id-check_sign-requires-clause-whole : goal.checked_id-check_sign-requires-clause-whole
 checked_id-check_sign-requires-clause-whole t c = (only_keeps c.in_ok-operand-in-Prefix.ensures.keeps.whole c.in_ok-id-in-Prefix.ensures.grown).whole
