@@ -27,7 +27,6 @@ left_takes_none op.Power j k h = refl
 left_takes_none o j k h = takes_none (met_by o j k) j h
 
 right_takes_none : (o : InfixOp) (j k : Judged Typing) → is_open k ≡ false → right_takes None o j k ≡ None
-right_takes_none op.Power j k h = takes_none (Of INTEGER.base) k h
 right_takes_none o j k h = takes_none (met_by o j k) k h
 
 abbrev IsUnchanged : CoreExpr → Type 0

@@ -2,23 +2,13 @@
 ghost use Rattle.std.specs.Prelude.{◌≡◌};
 ghost use Rattle.spx_core.specs.Contexts as rules;
 ghost use Rattle.spx_core.specs.Judged.{judged};
-ghost use Rattle.spx_core.specs.Types as is;
 
-use spx_core::{BaseType, Breach, Class, CoreExpr, Entity, ExprType, INTEGER, Typing};
+use spx_core::{BaseType, Breach, CoreExpr, Entity, ExprType, INTEGER, Typing};
 use spx_tree::{FunctionForm, InfixOp};
-use spx_types::judge;
+use spx_types::{is_numeric, judge, met, operands_fit, right_type, three_fit};
 
 /// What an expression is judged to be.
 type Judged = Result<Typing, Breach>;
-
-fn is_numeric(class: Class) -> bool
-    ensures { result ≡ is.is_numeric class }
-{
-    match class {
-        Class::Integer => true,
-        Class::Boolean | Class::Enumeration => false,
-    }
-}
 
 fn is_universal(of: ExprType) -> bool
     ensures { result ≡ rules.is_universal of }
@@ -68,15 +58,6 @@ fn or_integer(of: ExprType) -> ExprType
     }
 }
 
-fn met(left: ExprType, right: ExprType) -> ExprType
-    ensures { result ≡ is.met left right }
-{
-    match left {
-        ExprType::Universal => right,
-        ExprType::Of(base) => ExprType::Of(base),
-    }
-}
-
 fn compares(op: InfixOp) -> bool
     ensures { result ≡ rules.compares op }
 {
@@ -91,14 +72,23 @@ fn compares(op: InfixOp) -> bool
     }
 }
 
+fn met_in(op: InfixOp, left: ExprType, right: ExprType) -> ExprType
+    ensures { result ≡ rules.met_in op left right }
+{
+    if compares(op) {
+        or_integer(met(left, right))
+    } else {
+        right_type(op, left, right)
+    }
+}
+
 /// The type that operands meet in each other.
 fn met_by(op: InfixOp, left: Judged, right: Judged) -> ExprType
     ensures { result ≡ rules.met_by op left right }
 {
     match (left, right) {
-        (Ok(left), Ok(right)) => {
-            let of = met(left.of, right.of);
-            if compares(op) { or_integer(of) } else { of }
+        (Ok(left), Ok(right)) if operands_fit(op, left.of, right.of) => {
+            met_in(op, left.of, right.of)
         }
         _ => ExprType::Universal,
     }
@@ -108,7 +98,9 @@ fn met_in_range(tested: Judged, low: Judged, high: Judged) -> ExprType
     ensures { result ≡ rules.met_in_range tested low high }
 {
     match (tested, low, high) {
-        (Ok(tested), Ok(low), Ok(high)) => or_integer(met(met(tested.of, low.of), high.of)),
+        (Ok(tested), Ok(low), Ok(high)) if three_fit(tested.of, low.of, high.of) => {
+            or_integer(met(met(tested.of, low.of), high.of))
+        }
         _ => ExprType::Universal,
     }
 }
@@ -154,9 +146,9 @@ fn right_takes(
     ensures { result ≡ rules.right_takes given op left right }
 {
     match (given, op) {
-        (_, InfixOp::Power) => taken(ExprType::Of(INTEGER.base), right),
-        (Some(base), _) => Some(base),
         (None, _) => taken(met_by(op, left, right), right),
+        (Some(_), InfixOp::Power) => taken(met_by(op, left, right), right),
+        (Some(base), _) => Some(base),
     }
 }
 

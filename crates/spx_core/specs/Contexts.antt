@@ -26,7 +26,7 @@ use Rattle.spx_core.specs.declared.rule.Typing.{Typing}
 use Rattle.spx_core.specs.Judged.{Judged, judged}
 use Rattle.spx_core.specs.Places.{place_of}
 use Rattle.spx_core.specs.Shapes.{applied_of, implicit_of, in_range_of, in_type_of, infix_of, parenthesized_of, prefix_of}
-use Rattle.spx_core.specs.Types.{is_numeric, met}
+use Rattle.spx_core.specs.Types.{is_numeric, met, operands_fit, right_type, three_fit}
 
 -- ---- which expressions take a type
 
@@ -67,14 +67,18 @@ compares op.Greater = true
 compares op.GreaterOrEqual = true
 compares _ = false
 
--- the type that operands meet in each other, where they break no rule; the result of a comparison is of another type, so that no type is met further out
+-- the type that operands meet in each other; the result of a comparison is of another type, so that no type is met further out
+abbrev pub met_in : InfixOp → (left right : ExprType) → ExprType
+met_in op left right = if compares op then or_integer (met left right) else right_type op left right
+
+-- the same where they break no rule and fit the operator
 abbrev pub met_by : InfixOp → (left right : Judged Typing) → ExprType
-met_by op (Ok left) (Ok right) = if compares op then or_integer (met left.of right.of) else met left.of right.of
+met_by op (Ok left) (Ok right) = if operands_fit op left.of right.of then met_in op left.of right.of else Universal
 met_by op _ _ = Universal
 
--- the type that the three operands of a test for a range meet, where they break no rule
+-- the type that the three operands of a test for a range meet, where they break no rule and are of one type
 abbrev pub met_in_range : (tested low high : Judged Typing) → ExprType
-met_in_range (Ok tested) (Ok low) (Ok high) = or_integer (met (met tested.of low.of) high.of)
+met_in_range (Ok tested) (Ok low) (Ok high) = if three_fit tested.of low.of high.of then or_integer (met (met tested.of low.of) high.of) else Universal
 met_in_range _ _ _ = Universal
 
 -- the type of what a name denotes: of a type itself, of a variable and of a constant
@@ -99,9 +103,9 @@ left_takes None op left right = taken (met_by op left right) left
 
 -- the type that the right operand takes: an exponent is an `Integer` (Ada 95 RM 4.5.6)
 abbrev pub right_takes : Option BaseType → InfixOp → (left right : Judged Typing) → Option BaseType
-right_takes given op.Power left right = taken (Of INTEGER.base) right
-right_takes (Some base) op left right = Some base
 right_takes None op left right = taken (met_by op left right) right
+right_takes (Some base) op.Power left right = taken (met_by op.Power left right) right
+right_takes (Some base) op left right = Some base
 
 -- a static part of what takes a type is converted to it; of any other these are the parts
 abbrev pub converted : Option BaseType → CoreExpr → CoreExpr → CoreExpr
