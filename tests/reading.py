@@ -125,10 +125,18 @@ def finding(rule, place):
     return Finding(rule, place, TEXTS[rule])
 
 
+# The places of parts that lie outside of the type that is taken, in the expression that is judged now.
+OUTSIDE = []
+
+
 def require(rule, place, is_kept):
-    """Where the rule is not kept at this place, that is the one finding."""
-    if not is_kept:
-        raise Refused(finding(rule, place))
+    """Where the rule is not kept at this place, that is the one finding: but for N12 at a part that comes before it."""
+    if is_kept:
+        return
+    if OUTSIDE:
+        rule, place = 'N12', min(OUTSIDE, key=lambda place: (place.line, place.column))
+        OUTSIDE.clear()
+    raise Refused(finding(rule, place))
 
 
 # ---------------------------------------------------------------- lexis
@@ -1309,8 +1317,23 @@ def taking(expression, kind):
         require('N12', expression.place, kind.has(expression.value))
         return expression
     is_power = isinstance(expression, Operation) and expression.operator == '**'
-    parts = [part if is_power and part is expression.right else taking(part, kind) for part in parts_of(expression)]
+    parts = [part if is_power and part is expression.right else converted(part, kind) for part in parts_of(expression)]
     return replace(with_parts(expression, parts), kind=kind)
+
+
+def converted(part, kind):
+    """A part of an open expression that takes this kind. N12 is at it where it comes in the text, before what is after it."""
+    if is_open(part):
+        return taking(part, kind)
+    if not kind.has(part.value):
+        OUTSIDE.append(part.place)
+    return part
+
+
+def whole(expression):
+    """An expression that has met what is around it. N12: each of its parts lies in the type that it takes."""
+    require('N12', expression.place, not OUTSIDE)
+    return expression
 
 
 def with_parts(tree, parts):
@@ -1621,7 +1644,7 @@ class Resolver:
         """N10: an annotation, and the condition of an `if`, a `while` or an exit, is Boolean."""
         found = meeting_nothing(self.expression(tree))
         require('N10', found.place, found.kind is BOOLEAN)
-        return found
+        return whole(found)
 
     def asserted(self, tree, changed):
         """Values on entry may be named of the variables that are changed: both imported and exported."""
@@ -1659,7 +1682,7 @@ class Resolver:
         if isinstance(tree, Exit):
             return Exit(tree.place, tree.condition and self.condition(tree.condition))
         target = self.variable(tree.target, 'constant')
-        return Assignment(target, matching(self.expression(tree.value), target.kind))
+        return Assignment(target, whole(matching(self.expression(tree.value), target.kind)))
 
     def counting(self, tree):
         """The parameter of a loop is declared for its statements, and hidden in what is said of it. N10: its type has an order.
@@ -1669,7 +1692,7 @@ class Resolver:
         self.begin([tree.name])
         subtype = self.subtype(tree.type_mark)
         require('N10', tree.type_mark.place, subtype.kind is not BOOLEAN)
-        low, high = [bound and matching(self.expression(bound), subtype.kind) for bound in (tree.low, tree.high)]
+        low, high = [bound and whole(matching(self.expression(bound), subtype.kind)) for bound in (tree.low, tree.high)]
         del self.spelled[tree.name.word()]
         word = f'{tree.name.word()} {len(self.parameters) + 1}'
         self.parameters[word], self.spelled[word] = subtype, tree.name.text
@@ -1691,7 +1714,7 @@ class Resolver:
         """N10: a selector is of a type that has an order."""
         found = meeting_nothing(self.expression(tree))
         require('N10', found.place, found.kind is not BOOLEAN)
-        return found
+        return whole(found)
 
     def choices(self, tree, kind):
         """Those of an alternative, in the order of the text."""

@@ -4866,7 +4866,7 @@ def universal_powers_that_meet_nothing():
         'as_a_selector_with_a_typed_choice': 'case 2 ** A + 1 is when C => null; when others => null; end case'})
     yield from powers_refused('by_itself', {
         'as_an_exponent_past_integer': ('N12', 'V := V ** (@2147483648 ** A)'), 'as_an_exponent_of_a_number_past_integer': ('N12', 'V := 2 ** (@2147483648 ** A)'),
-        'as_an_exponent_before_its_base': ('N12', f'V := {TOO_FAR} ** (@2147483648 ** A)'), 'as_an_exponent_by_a_sum': ('N12', 'V := 2 ** (@4294967296 - 2 ** A)'),
+        'as_an_exponent_after_its_base': ('N12', f'V := @{TOO_FAR} ** (2147483648 ** A)'), 'as_an_exponent_by_a_sum': ('N12', 'V := 2 ** (@4294967296 - 2 ** A)'),
         'with_a_wide_exponent': ('N12', f'V := ({TOO_FAR} ** A) ** @2147483648'), 'with_an_exponent_of_another_type': ('N10', 'V := 2 @** V'),
         'with_a_truth_value_for_an_exponent': ('N10', f'V := {TOO_FAR} @** F'), 'with_a_literal_for_an_exponent': ('N10', 'V := (2 ** A) @** H'),
         'with_a_sum_of_another_type': ('N10', 'V := 2 @** (V + 4294967296 ** A)'), 'as_an_exponent_of_a_truth_value': ('N10', 'V := F @** (2 ** A)'),
