@@ -1,11 +1,10 @@
 // Text that is kept.
-ghost use Rattle.std.specs.Prelude.{◌≡◌, ◌↔◌, fold, IfOk, IsTrue};
+ghost use Rattle.std.specs.Prelude.{◌≡◌, ◌≤◌, ◌↔◌, fold, length, IfOk, IsTrue};
 ghost use Rattle.std.proofs.Common.{ap};
 ghost use Rattle.std.specs.Cmp.{partial_equiv_from_equiv};
 ghost use Rattle.std.specs.Cmp.Lexicographic.{bytes_decides, on_texts_equal};
-ghost use Rattle.std.specs.Hash as fed;
-ghost use Rattle.std.specs.List.{flat_map};
 ghost use Rattle.std.specs.Str.{str_eq_ignore_ascii_case, str_to_ascii_lowercase};
+ghost use Rattle.spx_text.specs.Hashed.{pieces};
 
 use smallvec::SmallVec;
 use std::alloc::{AllocError, Global};
@@ -14,6 +13,9 @@ use std::marker::Model;
 
 /// How many bytes of a text need no allocation: most identifiers have fewer.
 const INLINE: usize = 24;
+
+/// How many bytes go to a hasher in one write: most identifiers have fewer.
+const PIECE: usize = 32;
 
 /// A text that contracts see as the list of its bytes.
 #[derive(Debug, Drop)]
@@ -83,18 +85,35 @@ impl Eq for Text {
     ghost laws = { on_texts_equal str_to_ascii_lowercase };
 }
 
-fn hash_lowercase<H: Hasher>(bytes: &[u8], state: &mut H)
-    ensures { state.new ≡ fold H.write state.old (flat_map fed.u8 (str_to_ascii_lowercase bytes.now)) }
+/// One write of these bytes in lower case.
+fn write_lowercase<H: Hasher>(bytes: &[u8], state: &mut H)
+    requires { length bytes.now ≤ PIECE }
+    ensures { state.new ≡ H.write state.old (str_to_ascii_lowercase bytes.now) }
 {
-    for byte in bytes {
-        state.write_u8(byte.to_ascii_lowercase());
+    let mut lower = [0; PIECE];
+    for (i, byte) in bytes.iter().enumerate() {
+        lower[i] = byte.to_ascii_lowercase();
     }
+    state.write(&lower[..bytes.len()]);
+}
+
+/// A write of each piece, and one of what is left.
+fn hash_lowercase<H: Hasher>(bytes: &[u8], state: &mut H)
+    ensures { state.new ≡ fold H.write state.old (pieces PIECE (str_to_ascii_lowercase bytes.now)) }
+{
+    let (whole, rest) = bytes.as_chunks::<PIECE>();
+    for piece in whole {
+        write_lowercase(piece, state);
+    }
+    write_lowercase(rest, state);
 }
 
 impl Hash for Text {
-    ghost hash_input = { λ text. flat_map fed.u8 (str_to_ascii_lowercase text) };
+    ghost use Rattle.spx_text.specs.declared.text.TheConstants.{PIECE};
 
-    ghost respects_eq = { λ a b same. ap (flat_map fed.u8) ((bytes_decides (str_to_ascii_lowercase a) (str_to_ascii_lowercase b)).0 same) };
+    ghost hash_input = { λ text. pieces PIECE (str_to_ascii_lowercase text) };
+
+    ghost respects_eq = { λ a b same. ap (pieces PIECE) ((bytes_decides (str_to_ascii_lowercase a) (str_to_ascii_lowercase b)).0 same) };
 
     fn hash<H: Hasher>(&self, state: &mut H) {
         hash_lowercase(self.as_bytes(), state);
