@@ -66,7 +66,7 @@ impl Text {
     pub fn is_same_word(&self, other: &Text) -> bool
         ensures { result ≡ str_eq_ignore_ascii_case self.now other.now }
     {
-        self.as_bytes().eq_ignore_ascii_case(other.as_bytes())
+        self.same(other) || self.as_bytes().eq_ignore_ascii_case(other.as_bytes())
     }
 }
 
