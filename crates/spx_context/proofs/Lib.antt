@@ -1,3 +1,3 @@
 mod Closed
 mod Conversions
-mod Unchanged
+pub mod Unchanged

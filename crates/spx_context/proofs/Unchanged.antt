@@ -18,7 +18,7 @@ use Rattle.spx_context.specs.Powers.{has_power, is_power, power_step}
 use Rattle.spx_context.proofs.Closed.{closed}
 
 -- what is not open takes nothing
-takes_none : (of : ExprType) (j : Judged Typing) → is_open j ≡ false → taken of j ≡ None
+pub takes_none : (of : ExprType) (j : Judged Typing) → is_open j ≡ false → taken of j ≡ None
 takes_none Universal j h = refl
 takes_none (Of base) j h = ap (λ (b : Bool). let o : Option BaseType = if b then Some base else None in o) (and_right (is_numeric base.class) (is_open j) h)
 

@@ -18,18 +18,23 @@ use Rattle.spx_tree.specs.Form.{forms_of}
 use Rattle.spx_tree.specs.Written.{written, written_stmt}
 use Rattle.spx_tree.proofs.WrittenLevels.{written_level, spelled_stmt}
 use Rattle.spx_core.specs.declared.dependency.CoreDerivesItem.{CoreDerivesItem}
+use Rattle.spx_core.specs.declared.entity.TheConstants.{INTEGER}
 use Rattle.spx_core.specs.declared.expression.CoreExpr.{CoreExpr}
+use Rattle.spx_core.specs.declared.expression.CoreExpr.TheBlock.{hidden-the_row-CoreExpr-0}
 use Rattle.spx_core.specs.declared.expression.CoreExpr.TheVariants as expr
 use Rattle.spx_core.specs.declared.name.Defining.{Defining}
 use Rattle.spx_core.specs.declared.statement.CoreStmt.{CoreStmt}
 use Rattle.spx_core.specs.declared.statement.CoreStmt.TheVariants as stmt
 use Rattle.spx_core.specs.declared.program.Program.{Program}
+use Rattle.spx_core.specs.declared.rule.ExprType.TheVariants.{Of}
+use Rattle.spx_core.specs.Contexts.{in_context}
 use Rattle.spx_core.specs.Regions.{standard}
-use Rattle.spx_core.specs.Resolved.{expr_step, parameters_by_stmts, resolved, resolved_in, resolved_stmt}
+use Rattle.spx_core.specs.Resolved.{expr_step, parameters_by_stmts, resolved, resolved_condition, resolved_in, resolved_stmt}
 use Rattle.spx_core.proofs.Callers.LoopParameters.{parameters-Assertion, parameters-Assignment}
 use Rattle.spx_examples.specs.Assertions.{is_next, is_positive, post_on, program_of}
 use Rattle.spx_examples.specs.AssertionText.{assert_bytes, assert_tokens, assert_units, asserted_bytes, asserted_tokens, asserted_units, next_written, noted_sub, noted_written, positive_written, procedure_with, tokens_with, units_with}
 use Rattle.spx_examples.specs.Increment.{place, word, x_written, successor_written, step as step_resolved, step_written, relation, successor, x_at, x_named}
+use Rattle.spx_examples.proofs.Contexts.{becomes}
 use Rattle.spx_examples.proofs.IncrementNames.{outer, region, regions, x_denotes}
 use Rattle.spx_examples.proofs.IncrementText.{heading, derives, opening, step, ending, step_is, step_written_as}
 use Rattle.spx_examples.proofs.Resolving.{as_body, resolved_as, resolved_assertion, resolved_step, resolved_x}
@@ -105,21 +110,25 @@ resolved_entry : resolved_in items regions (written_expr.Entry (word (codes "X")
 unfolding roll-Expr roll standard
 resolved_entry = fold-roll-Expr CoreExpr (expr_step items regions) (Expr-F.Entry (word (codes "X") 3 14))
 
-resolved_next : resolved_in items regions next_written ≡ is_next 3 10
-unfolding roll-Expr roll
+resolved_next : resolved_condition items regions next_written ≡ is_next 3 10
+unfolding roll-Expr roll hidden-the_row-CoreExpr-0 hidden
 resolved_next =
     let after = written_expr.Infix op.Add (place 3 17) (written_expr.Entry (word (codes "X") 3 14)) (written_expr.Number (pos 1) (place 3 19)) in
-    fold-roll-Expr CoreExpr (expr_step items regions) (Expr-F.Infix op.Equal (place 3 12) (written_expr.Name (x_written 3 10)) after)
+    ap (in_context (Of INTEGER.base))
+    (fold-roll-Expr CoreExpr (expr_step items regions) (Expr-F.Infix op.Equal (place 3 12) (written_expr.Name (x_written 3 10)) after)
     ∙ ap₂ (expr.Infix op.Equal (place 3 12)) (resolved_x items regions x_denotes 3 10)
     (fold-roll-Expr CoreExpr (expr_step items regions) (Expr-F.Infix op.Add (place 3 17) (written_expr.Entry (word (codes "X") 3 14)) (written_expr.Number (pos 1) (place 3 19)))
-    ∙ ap₂ (expr.Infix op.Add (place 3 17)) resolved_entry (fold-roll-Expr CoreExpr (expr_step items regions) (Expr-F.Number (pos 1) (place 3 19))))
+    ∙ ap₂ (expr.Infix op.Add (place 3 17)) resolved_entry (fold-roll-Expr CoreExpr (expr_step items regions) (Expr-F.Number (pos 1) (place 3 19)))))
+    ∙ becomes (is_next 3 10) refl (Of INTEGER.base)
 
 module _ (kind : AssertionKind) (column : ℕ) where
-  resolved_positive : resolved_in items regions (positive_written column) ≡ is_positive 7 column
-  unfolding roll-Expr roll
+  resolved_positive : resolved_condition items regions (positive_written column) ≡ is_positive 7 column
+  unfolding roll-Expr roll hidden-the_row-CoreExpr-0 hidden
   resolved_positive =
-      fold-roll-Expr CoreExpr (expr_step items regions) (Expr-F.Infix op.Greater (place 7 (column + 2)) (written_expr.Name (x_written 7 column)) (written_expr.Number (pos 0) (place 7 (column + 4))))
-      ∙ ap₂ (expr.Infix op.Greater (place 7 (column + 2))) (resolved_x items regions x_denotes 7 column) (fold-roll-Expr CoreExpr (expr_step items regions) (Expr-F.Number (pos 0) (place 7 (column + 4))))
+      ap (in_context (Of INTEGER.base))
+      (fold-roll-Expr CoreExpr (expr_step items regions) (Expr-F.Infix op.Greater (place 7 (column + 2)) (written_expr.Name (x_written 7 column)) (written_expr.Number (pos 0) (place 7 (column + 4))))
+      ∙ ap₂ (expr.Infix op.Greater (place 7 (column + 2))) (resolved_x items regions x_denotes 7 column) (fold-roll-Expr CoreExpr (expr_step items regions) (Expr-F.Number (pos 0) (place 7 (column + 4)))))
+      ∙ becomes (is_positive 7 column) refl (Of INTEGER.base)
 
   -- the program with this postcondition
   abbrev with_post : CoreExpr → Program

@@ -1,5 +1,5 @@
--- Folds over expressions and terms, as recursions that compute where their arguments do: the terms and checks of names, numbers and operations, and the
--- conditions of trees.
+-- Folds over expressions and terms, as recursions that compute where their arguments do: what expressions are judged to be, the terms and checks of names,
+-- numbers and operations, and the conditions of trees.
 use Rattle.std.proofs.Common.{◌≡◌, Bool, if◌then◌else◌, List, [], ◌∷◌, ◌++◌, map, refl, ap, ap₂, ◌∙◌}
 use Rattle.std.proofs.Math.Path.{fun_ext}
 use Rattle.std.specs.List.{filter_map, list_all}
@@ -9,7 +9,7 @@ use Rattle.spx_core.specs.declared.entity.VarId.{VarId}
 use Rattle.spx_core.specs.declared.expression.CoreExpr.{CoreExpr, CoreExpr-F}
 use Rattle.spx_core.specs.declared.expression.CoreExpr.TheBlock.{hidden-the_row-CoreExpr-0}
 use Rattle.spx_core.specs.declared.expression.CoreExpr.TheVariants as expr
-use Rattle.spx_core.specs.declared.expression.CoreExpr.TheVariants.{outs-Infix, outs-Name, outs-Number}
+use Rattle.spx_core.specs.declared.expression.CoreExpr.TheVariants.{outs-Applied, outs-Attribute, outs-Entry, outs-Implicit, outs-InRange, outs-InType, outs-Infix, outs-Name, outs-Number, outs-Parenthesized, outs-Prefix}
 use Rattle.spx_core.specs.declared.name.CoreName.{CoreName}
 use Rattle.spx_core.specs.declared.program.Program.{Program}
 use Rattle.spx_core.specs.declared.rule.Typing.{Typing}
@@ -20,7 +20,7 @@ use Rattle.spx_core.specs.Places.{place_in, place_of}
 use Rattle.spx_core.specs.Reads.{names_read, names_step}
 use Rattle.spx_core.specs.Shapes as shape
 use Rattle.spx_core.specs.Uses.{variable_of}
-use Rattle.spx_core.proofs.Callers.Expressions.{fold-Infix, fold-Name, fold-Number}
+use Rattle.spx_core.proofs.Callers.Expressions.{fold-Applied, fold-Attribute, fold-Entry, fold-Implicit, fold-InRange, fold-InType, fold-Infix, fold-Name, fold-Number, fold-Parenthesized, fold-Prefix}
 use Rattle.spx_term.specs.declared.term.Name.{Name}
 use Rattle.spx_term.specs.declared.term.Term.{Term}
 use Rattle.spx_term.specs.declared.term.Term.TheBlock.{hidden-the_row-Term-0}
@@ -39,41 +39,60 @@ use Rattle.spx_paths.specs.Walks.{is_fixed, keeps_value}
 abbrev pub judged_now : CoreExpr → Judged Typing
 judged_now (expr.Number n place) = expr_step (CoreExpr-F.Number n place)
 judged_now (expr.Name name) = expr_step (CoreExpr-F.Name name)
+judged_now (expr.Entry name allowed) = expr_step (CoreExpr-F.Entry name allowed)
+judged_now (expr.Attribute prefix designator) = expr_step (CoreExpr-F.Attribute prefix designator)
+judged_now (shape.applied_of function place a) = expr_step (CoreExpr-F.Applied function place (judged_now a))
+judged_now (shape.parenthesized_of place a) = expr_step (CoreExpr-F.Parenthesized place (judged_now a))
+judged_now (shape.implicit_of base place a) = expr_step (CoreExpr-F.Implicit base place (judged_now a))
+judged_now (shape.prefix_of op place a) = expr_step (CoreExpr-F.Prefix op place (judged_now a))
 judged_now (shape.infix_of op place a b) = expr_step (CoreExpr-F.Infix op place (judged_now a) (judged_now b))
-judged_now e = judged e
+judged_now (shape.in_type_of op place a name) = expr_step (CoreExpr-F.InType op place (judged_now a) name)
+judged_now (shape.in_range_of op place a low high) = expr_step (CoreExpr-F.InRange op place (judged_now a) (judged_now low) (judged_now high))
 
 pub judged_is : (e : CoreExpr) → judged e ≡ judged_now e
 unfolding hidden-the_row-CoreExpr-0 hidden
 judged_is (expr.Number n place) = fold-Number expr_step n place
 judged_is (expr.Name name) = fold-Name expr_step name
+judged_is (expr.Entry name allowed) = fold-Entry expr_step name allowed
+judged_is (expr.Attribute prefix designator) = fold-Attribute expr_step prefix designator
+judged_is (shape.applied_of function place a) = fold-Applied expr_step function place a ∙ ap (λ j. expr_step (CoreExpr-F.Applied function place j)) (judged_is a)
+judged_is (shape.parenthesized_of place a) = fold-Parenthesized expr_step place a ∙ ap (λ j. expr_step (CoreExpr-F.Parenthesized place j)) (judged_is a)
+judged_is (shape.implicit_of base place a) = fold-Implicit expr_step base place a ∙ ap (λ j. expr_step (CoreExpr-F.Implicit base place j)) (judged_is a)
+judged_is (shape.prefix_of op place a) = fold-Prefix expr_step op place a ∙ ap (λ j. expr_step (CoreExpr-F.Prefix op place j)) (judged_is a)
 judged_is (shape.infix_of op place a b) = fold-Infix expr_step op place a b ∙ ap₂ (λ j k. expr_step (CoreExpr-F.Infix op place j k)) (judged_is a) (judged_is b)
-judged_is (expr.Entry name allowed) = refl
-judged_is (expr.Attribute prefix designator) = refl
-judged_is (shape.applied_of function place a) = refl
-judged_is (shape.parenthesized_of place a) = refl
-judged_is (shape.prefix_of op place a) = refl
-judged_is (shape.in_type_of op place a name) = refl
-judged_is (shape.in_range_of op place a low high) = refl
+judged_is (shape.in_type_of op place a name) = fold-InType expr_step op place a name ∙ ap (λ j. expr_step (CoreExpr-F.InType op place j name)) (judged_is a)
+judged_is (shape.in_range_of op place a low high) =
+    fold-InRange expr_step op place a low high
+    ∙ ap₂ (λ j k. expr_step (CoreExpr-F.InRange op place j k (judged high))) (judged_is a) (judged_is low)
+    ∙ ap (λ l. expr_step (CoreExpr-F.InRange op place (judged_now a) (judged_now low) l)) (judged_is high)
 
 -- where an expression stands
 abbrev pub place_now : CoreExpr → Place
 place_now (expr.Number n place) = place
 place_now (expr.Name name) = name.name.place
+place_now (expr.Entry name allowed) = name.name.place
+place_now (expr.Attribute prefix designator) = prefix.name.place
+place_now (shape.applied_of function place a) = function.name.name.place
+place_now (shape.parenthesized_of place a) = place
+place_now (shape.implicit_of base place a) = place
+place_now (shape.prefix_of op place a) = place
 place_now (shape.infix_of op place a b) = place
-place_now e = place_of e
+place_now (shape.in_type_of op place a name) = place
+place_now (shape.in_range_of op place a low high) = place
 
 pub place_is : (e : CoreExpr) → place_of e ≡ place_now e
 unfolding hidden-the_row-CoreExpr-0 hidden
 place_is (expr.Number n place) = ap place_in (outs-Number n place)
 place_is (expr.Name name) = ap place_in (outs-Name name)
+place_is (expr.Entry name allowed) = ap place_in (outs-Entry name allowed)
+place_is (expr.Attribute prefix designator) = ap place_in (outs-Attribute prefix designator)
+place_is (shape.applied_of function place a) = ap place_in (outs-Applied function place a)
+place_is (shape.parenthesized_of place a) = ap place_in (outs-Parenthesized place a)
+place_is (shape.implicit_of base place a) = ap place_in (outs-Implicit base place a)
+place_is (shape.prefix_of op place a) = ap place_in (outs-Prefix op place a)
 place_is (shape.infix_of op place a b) = ap place_in (outs-Infix op place a b)
-place_is (expr.Entry name allowed) = refl
-place_is (expr.Attribute prefix designator) = refl
-place_is (shape.applied_of function place a) = refl
-place_is (shape.parenthesized_of place a) = refl
-place_is (shape.prefix_of op place a) = refl
-place_is (shape.in_type_of op place a name) = refl
-place_is (shape.in_range_of op place a low high) = refl
+place_is (shape.in_type_of op place a name) = ap place_in (outs-InType op place a name)
+place_is (shape.in_range_of op place a low high) = ap place_in (outs-InRange op place a low high)
 
 -- the names that it reads
 abbrev pub names_now : CoreExpr → List CoreName
@@ -91,6 +110,7 @@ names_are (expr.Entry name allowed) = refl
 names_are (expr.Attribute prefix designator) = refl
 names_are (shape.applied_of function place a) = refl
 names_are (shape.parenthesized_of place a) = refl
+names_are (shape.implicit_of base place a) = refl
 names_are (shape.prefix_of op place a) = refl
 names_are (shape.in_type_of op place a name) = refl
 names_are (shape.in_range_of op place a low high) = refl
@@ -121,6 +141,7 @@ module _ (present entered : VarId → Term) where
   term_is (expr.Attribute prefix designator) = refl
   term_is (shape.applied_of function place a) = refl
   term_is (shape.parenthesized_of place a) = refl
+  term_is (shape.implicit_of base place a) = refl
   term_is (shape.prefix_of op place a) = refl
   term_is (shape.in_type_of op place a name) = refl
   term_is (shape.in_range_of op place a low high) = refl
@@ -160,6 +181,7 @@ module _ (p : Program) (entered : VarId → Term) where
   checks_are lefts (expr.Attribute prefix designator) rest = refl
   checks_are lefts (shape.applied_of function place a) rest = refl
   checks_are lefts (shape.parenthesized_of place a) rest = refl
+  checks_are lefts (shape.implicit_of base place a) rest = refl
   checks_are lefts (shape.prefix_of op place a) rest = refl
   checks_are lefts (shape.in_type_of op place a name) rest = refl
   checks_are lefts (shape.in_range_of op place a low high) rest = refl

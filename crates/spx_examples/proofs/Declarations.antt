@@ -25,16 +25,17 @@ use Rattle.spx_core.specs.declared.program.Program.{Program}
 use Rattle.spx_core.specs.declared.program.TypeRow.{TypeRow}
 use Rattle.spx_core.specs.declared.rule.Breach.{Breach}
 use Rattle.spx_core.specs.declared.rule.RuleName.TheVariants.{N10, N13}
+use Rattle.spx_core.specs.declared.rule.ExprType.TheVariants.{Universal}
 use Rattle.spx_core.specs.declared.rule.Typing.{Typing}
 use Rattle.spx_core.specs.declared.statement.CoreDecl.{CoreDecl}
 use Rattle.spx_core.specs.declared.subprogram.Sub.{Sub}
 use Rattle.spx_core.specs.Commands.{Command, Skip, Set, Then, commands}
 use Rattle.spx_core.specs.Dependency.{relation}
-use Rattle.spx_core.specs.Judged.{Judged, ◌>>=◌, breach_in, each, expr_step, if_there, keeps, named_value, referred_type}
+use Rattle.spx_core.specs.Judged.{Judged, ◌>>=◌, breach_in, each, expr_step, if_there, judged, keeps, named_value, referred_type}
 use Rattle.spx_core.specs.Obeyed.{obeyed_post, obeyed_pre}
 use Rattle.spx_core.specs.Places.{place_in}
 use Rattle.spx_core.specs.Regions.{Region, Regions}
-use Rattle.spx_core.specs.Resolved.{Counts, after_formals, around_body, around_names, at_start, bounded, constant_of, counted, counted_sub, declared_by, declared_by_decls, declaring as declared_after, declaring_all, defining, defining_all, formal_names, integer_type, object_of, or_zero, own_types, params_of, resolved, resolved_decl, resolved_decls, resolved_expr, resolved_reference, resolved_sub, row_of, rows_by, rows_by_decls, standard_types, subtype_of, unit_name, value_in}
+use Rattle.spx_core.specs.Resolved.{Counts, after_formals, around_body, around_names, at_start, bounded, constant_of, counted, counted_sub, declared_by, declared_by_decls, declaring as declared_after, declaring_all, defining, defining_all, formal_names, integer_type, object_of, or_zero, own_types, params_of, resolved, resolved_decl, resolved_decls, resolved_expr, resolved_reference, resolved_static, resolved_sub, row_of, rows_by, rows_by_decls, standard_types, subtype_of, type_named, unit_name, value_in}
 use Rattle.spx_core.specs.Statements.{bound, declared_once, first_name_breach, judged_command, judged_decl, judged_end, judged_item, judged_name, judged_param, judged_predicate, static_between, static_number}
 use Rattle.spx_core.specs.Types.{has_numbers}
 use Rattle.spx_core.specs.Uses.{variable_of}
@@ -52,7 +53,7 @@ use Rattle.spx_examples.specs.Increment.{place, x_written}
 use Rattle.spx_examples.specs.NameRules.{alone}
 use Rattle.spx_examples.specs.Operators.{a, a_at, b_at, number, two, values}
 use Rattle.spx_examples.proofs.Evaluations.{assigns, eval_name, operated_as}
-use Rattle.spx_examples.proofs.NameBreaches.{assignment_now, body_is, body_of, expr_now, first_position, judged_is}
+use Rattle.spx_examples.proofs.NameBreaches.{assignment_now, body_is, body_of, first_position, judged_met, judged_met_is}
 use Rattle.spx_examples.proofs.Operators.{eval_two, two_judged}
 use Rattle.spx_examples.proofs.Resolving.{as_body, resolved_assignment}
 use Rattle.spx_examples.proofs.Statements.{and_no_more, assignment_is}
@@ -125,39 +126,46 @@ narrowed_to region before name parent low high =
     one_type region name (bounded before.types (subtype_of parent.root.entity).base (value_in low) (value_in high))
     (referred_type parent >>= λ subtype. keeps N10 parent.root.name.place (has_numbers subtype.base.class) >>= λ _. range_of (Some subtype.base) subtype.first subtype.last low high)
 
+-- what an expression that has to be static is judged to be
+abbrev static_now : Regions → Expr → Judged Typing
+static_now around = judged_met [] around Universal
+
+static_is : (around : Regions) (e : Expr) → judged (resolved_static around e) ≡ static_now around e
+static_is around = judged_met_is [] around Universal
+
 module _ (outer : Regions) where
   -- the same, where expressions compute
   abbrev seen_now : Region → Counts → Decl → Seen
   seen_now region before (written_decl.Variables names type_name None) = seen (resolved_decl outer region before (written_decl.Variables names type_name None))
   seen_now region before (written_decl.Variables names type_name (Some value)) =
-      initialized region before names (resolved_reference (around_names outer region names) type_name) (expr_now [] (around_names outer region names) value)
+      initialized region before names (resolved_reference (around_names outer region names) type_name) (static_now (around_names outer region names) value)
   seen_now region before (written_decl.Constants names type_name value) =
-      constants region names (option_map (resolved_reference (around_names outer region names)) type_name) (expr_now [] (around_names outer region names) value)
+      constants region names (option_map (resolved_reference (around_names outer region names)) type_name) (static_now (around_names outer region names) value)
   seen_now region before (written_decl.FullType name (written_definition.Integer range)) =
-      numbers region before name (expr_now [] (around_names outer region (name ∷ [])) range.low) (expr_now [] (around_names outer region (name ∷ [])) range.high)
+      numbers region before name (static_now (around_names outer region (name ∷ [])) range.low) (static_now (around_names outer region (name ∷ [])) range.high)
   seen_now region before (written_decl.FullType name (written_definition.Enumeration place literals)) =
       seen (resolved_decl outer region before (written_decl.FullType name (written_definition.Enumeration place literals)))
   seen_now region before (written_decl.Subtype name parent None) = seen (resolved_decl outer region before (written_decl.Subtype name parent None))
   seen_now region before (written_decl.Subtype name parent (Some range)) =
       narrowed_to region before name (resolved_reference (around_names outer region (name ∷ [])) parent)
-      (expr_now [] (around_names outer region (name ∷ [])) range.low)
-      (expr_now [] (around_names outer region (name ∷ [])) range.high)
+      (static_now (around_names outer region (name ∷ [])) range.low)
+      (static_now (around_names outer region (name ∷ [])) range.high)
 
   seen_is : (region : Region) (before : Counts) (d : Decl) → seen (resolved_decl outer region before d) ≡ seen_now region before d
   seen_is region before (written_decl.Variables names type_name None) = refl
   seen_is region before (written_decl.Variables names type_name (Some value)) =
-      ap (initialized region before names (resolved_reference (around_names outer region names) type_name)) (judged_is [] (around_names outer region names) value)
-  seen_is region before (written_decl.Constants names None value) = ap (constants region names None) (judged_is [] (around_names outer region names) value)
+      ap (initialized region before names (resolved_reference (around_names outer region names) type_name)) (static_is (around_names outer region names) value)
+  seen_is region before (written_decl.Constants names None value) = ap (constants region names None) (static_is (around_names outer region names) value)
   seen_is region before (written_decl.Constants names (Some type_name) value) =
-      ap (constants region names (Some (resolved_reference (around_names outer region names) type_name))) (judged_is [] (around_names outer region names) value)
+      ap (constants region names (Some (resolved_reference (around_names outer region names) type_name))) (static_is (around_names outer region names) value)
   seen_is region before (written_decl.FullType name (written_definition.Integer range)) =
-      ap₂ (numbers region before name) (judged_is [] (around_names outer region (name ∷ [])) range.low) (judged_is [] (around_names outer region (name ∷ [])) range.high)
+      ap₂ (numbers region before name) (static_is (around_names outer region (name ∷ [])) range.low) (static_is (around_names outer region (name ∷ [])) range.high)
   seen_is region before (written_decl.FullType name (written_definition.Enumeration place literals)) = refl
   seen_is region before (written_decl.Subtype name parent None) = refl
   seen_is region before (written_decl.Subtype name parent (Some range)) =
       ap₂ (narrowed_to region before name (resolved_reference (around_names outer region (name ∷ [])) parent))
-      (judged_is [] (around_names outer region (name ∷ [])) range.low)
-      (judged_is [] (around_names outer region (name ∷ [])) range.high)
+      (static_is (around_names outer region (name ∷ [])) range.low)
+      (static_is (around_names outer region (name ∷ [])) range.high)
 
   abbrev all_now : Region → Counts → List Decl → Seen
   all_now region before [] = record { judgement = Ok tt; names = []; rows = [] }
@@ -228,13 +236,13 @@ module _ (ds : List Decl) (target : Name) (value : Expr) where
 
   -- the assignment, where its names denote what they do after these declarations
   abbrev setting : Command
-  setting = Then (Set (resolved_reference around_set target) (resolved_expr around_set value)) Skip
+  setting = Then (Set (resolved_reference around_set target) (resolved_expr (type_named around_set target) around_set value)) Skip
 
   setting_is : commands (first ds set).statements ≡ setting
   setting_is =
       ap (λ (s : Seen). body_after ds set s.names) (now_is ds set)
       ∙ ap (λ made. commands (as_body made)) (resolved_assignment (relation (first ds set)) (around ds set) (seen_there ds set (now ds set).names) (first_position (first ds set)) target value)
-      ∙ assignment_is (resolved_reference around_set target) (resolved_expr around_set value)
+      ∙ assignment_is (resolved_reference around_set target) (resolved_expr (type_named around_set target) around_set value)
 
   pub rule_breach_is : rule_breach_at ds target value ≡ rules.breach_with (first ds set) [] (if_there (obeyed_pre (first ds set)) (first ds set).pre) (if_there (obeyed_post (first ds set)) (first ds set).post) setting
   unfolding rule_breach_at

@@ -1,10 +1,8 @@
 -- The text of the procedure `Double`, cut into its parts, its units in the grammar, and the program that they are resolved to.
 use Rattle.std.proofs.Common.{◌≡◌, ℕ, pos, ◌≤◌, List, [], ◌∷◌, ◌++◌, Some, inl, refl, sym, ap, ap₂, subst, ◌∙◌, arith}
 use Rattle.std.specs.Prelude.{codes}
-use denote.Hole.Carrier.{hidden, roll}
-use Rattle.spx_tree.specs.declared.expression.Expr.{Expr, Expr-F, map-Expr, roll-Expr, fold-roll-Expr}
+use denote.Hole.Carrier.{hidden}
 use Rattle.spx_tree.specs.declared.expression.Expr.TheBlock.{hidden-the_row-Expr-0}
-use Rattle.spx_tree.specs.declared.expression.Expr.TheVariants as written_expr
 use Rattle.spx_tree.specs.declared.statement.AssertionKind.TheVariants as assertion
 use Rattle.spx_tree.specs.declared.statement.Scheme.TheVariants as written_scheme
 use Rattle.spx_tree.specs.declared.statement.Stmt.{Stmt-F, out-Stmt}
@@ -14,25 +12,27 @@ use Rattle.spx_tree.specs.Places.{place_after_bytes}
 use Rattle.spx_tree.specs.Spells.{Spells}
 use Rattle.spx_tree.specs.Grammar.{IsCondition, IsExpr, IsFormed, IsRange, Within, IsStmt, IsFile}
 use Rattle.spx_tree.specs.Form.{Form, forms_of}
-use Rattle.spx_tree.specs.Written.{applied, in_range, in_type, operation, parenthesized, signed, stmt_step, written, written_stmt}
+use Rattle.spx_tree.specs.Written.{stmt_step, written, written_stmt}
 use Rattle.spx_tree.proofs.WrittenLevels.{written_level, spelled_stmt}
 use Rattle.spx_core.specs.declared.dependency.CoreDerivesItem.{CoreDerivesItem}
+use Rattle.spx_core.specs.declared.entity.TheConstants.{INTEGER}
 use Rattle.spx_core.specs.declared.expression.CoreExpr.{CoreExpr}
-use Rattle.spx_core.specs.declared.expression.CoreExpr.TheVariants as expr
+use Rattle.spx_core.specs.declared.expression.CoreExpr.TheBlock.{hidden-the_row-CoreExpr-0}
 use Rattle.spx_core.specs.declared.name.Defining.{Defining}
 use Rattle.spx_core.specs.declared.program.Program.{Program}
+use Rattle.spx_core.specs.declared.rule.ExprType.TheVariants.{Of}
 use Rattle.spx_core.specs.declared.statement.CoreCount.{CoreCount}
 use Rattle.spx_core.specs.declared.statement.CoreScheme.TheVariants as scheme
 use Rattle.spx_core.specs.declared.statement.CoreStmt.{CoreStmt}
 use Rattle.spx_core.specs.declared.statement.CoreStmt.TheVariants as stmt
 use Rattle.spx_core.specs.Regions.{Region, Regions, standard}
-use Rattle.spx_core.specs.Resolved.{around_body, around_names, declared_by_count, declaring_all, parameters_by_stmts, resolved, resolved_count, resolved_in, resolved_stmt, resolved_stmts, resolved_value}
-use Rattle.spx_core.specs.Resolved as resolving
+use Rattle.spx_core.specs.Resolved.{around_body, around_names, declared_by_count, declaring_all, parameters_by_stmts, resolved, resolved_count, resolved_stmt, resolved_stmts}
 use Rattle.spx_core.proofs.Callers.LoopParameters.{parameters-Assertion, parameters-Assignment, parameters-For}
 use Rattle.spx_examples.specs.Doubling.{add_two, asserting, closing, count, counting, double, double_declared, double_program, n_formal, number, relation, s_at, s_formal, s_is_twice_i, set_zero, two_more}
 use Rattle.spx_examples.specs.DoublingText.{add_written, assert_written, bounds_written, count_written, counting_written, double_bytes, double_tokens, double_units, double_written, number_at, range_written, simple, sum_written, twice_written, value_at, zero_written}
 use Rattle.spx_examples.specs.Flag.{named}
 use Rattle.spx_examples.specs.Increment.{place, word}
+use Rattle.spx_examples.proofs.Contexts.{met_is}
 use Rattle.spx_examples.proofs.Resolving.{as_body, resolved_as, resolved_assertion, resolved_assignment, resolved_for}
 use Rattle.spx_examples.proofs.Spelling.{Piece, Word, Digits, Delimiter, Space, Head, LineEnd, spelled_by}
 
@@ -150,31 +150,6 @@ pub as_written : written double_units ≡ forms_of double_bytes double_tokens
 unfolding hidden-the_row-Expr-0 hidden
 as_written = rw zero_written_as (rw loop_written_as refl)
 
--- ---- its expressions
-
-module _ (items : List CoreDerivesItem) (around : Regions) where
-  -- what an expression is resolved to, where this computes
-  abbrev resolved_now : Expr → CoreExpr
-  resolved_now (written_expr.Number k at) = expr.Number k at
-  resolved_now (written_expr.Name name) = resolved_value around name
-  resolved_now (operation op at a b) = expr.Infix op at (resolved_now a) (resolved_now b)
-  resolved_now e = resolved_in items around e
-
-  at_layer : (y : Expr-F Expr) → resolved_in items around (roll-Expr y) ≡ resolving.expr_step items around (map-Expr Expr CoreExpr (resolved_in items around) y)
-  at_layer y = fold-roll-Expr CoreExpr (resolving.expr_step items around) y
-
-  resolution_is : (e : Expr) → resolved_in items around e ≡ resolved_now e
-  unfolding roll-Expr roll hidden-the_row-Expr-0 hidden
-  resolution_is (written_expr.Number k at) = at_layer (Expr-F.Number k at)
-  resolution_is (written_expr.Name name) = at_layer (Expr-F.Name name)
-  resolution_is (operation op at a b) = at_layer (Expr-F.Infix op at a b) ∙ ap₂ (expr.Infix op at) (resolution_is a) (resolution_is b)
-  resolution_is (written_expr.Entry name) = refl
-  resolution_is (applied function at a) = refl
-  resolution_is (parenthesized at a) = refl
-  resolution_is (signed op at a) = refl
-  resolution_is (in_type op at a name) = refl
-  resolution_is (in_range op at a low high) = refl
-
 -- ---- its program
 
 abbrev items : List CoreDerivesItem
@@ -194,25 +169,25 @@ count_is : resolved_count outer region 2 count_written ≡ count
 unfolding standard
 count_is =
     ap₂ (λ (low high : CoreExpr). record count { bounds = Some (record { low = low; high = high }) })
-    (resolution_is [] (around_names outer region (word (codes "I") 8 8 ∷ [])) (number_at (pos 1) 8 27))
-    (resolution_is [] (around_names outer region (word (codes "I") 8 8 ∷ [])) (value_at (codes "N") 8 32))
+    (met_is [] (around_names outer region (word (codes "I") 8 8 ∷ [])) (Of INTEGER.base) (number_at (pos 1) 8 27))
+    (met_is [] (around_names outer region (word (codes "I") 8 8 ∷ [])) (Of INTEGER.base) (value_at (codes "N") 8 32))
 
 zero_resolved : resolved_stmt items outer zero_written region 2 ≡ (set_zero, 2)
 zero_resolved =
     resolved_assignment items outer region 2 (simple (codes "S") 7 4) (number_at (pos 0) 7 9)
-    ∙ ap (λ (e : CoreExpr). (stmt.Assignment (named (s_at 7 4)) e, 2)) (resolution_is [] (region ∷ outer) (number_at (pos 0) 7 9))
+    ∙ ap (λ (e : CoreExpr). (stmt.Assignment (named (s_at 7 4)) e, 2)) (met_is [] (region ∷ outer) (Of INTEGER.base) (number_at (pos 0) 7 9))
 
 add_resolved : resolved_stmt items outer add_written in_loop 3 ≡ (add_two, 3)
-unfolding hidden-the_row-Expr-0 hidden
+unfolding hidden-the_row-Expr-0 hidden-the_row-CoreExpr-0 hidden
 add_resolved =
     resolved_assignment items outer in_loop 3 (simple (codes "S") 9 7) sum_written
-    ∙ ap (λ (e : CoreExpr). (stmt.Assignment (named (s_at 9 7)) e, 3)) (resolution_is [] (in_loop ∷ outer) sum_written)
+    ∙ ap (λ (e : CoreExpr). (stmt.Assignment (named (s_at 9 7)) e, 3)) (met_is [] (in_loop ∷ outer) (Of INTEGER.base) sum_written)
 
 assert_resolved : resolved_stmt items outer assert_written in_loop 3 ≡ (asserting, 3)
-unfolding hidden-the_row-Expr-0 hidden
+unfolding hidden-the_row-Expr-0 hidden-the_row-CoreExpr-0 hidden
 assert_resolved =
     resolved_assertion items outer in_loop 3 assertion.Assert (place 10 11) (twice_written (codes "I") 10 18)
-    ∙ ap (λ (e : CoreExpr). (stmt.Assertion assertion.Assert (place 10 11) e, 3)) (resolution_is items (in_loop ∷ outer) (twice_written (codes "I") 10 18))
+    ∙ ap (λ (e : CoreExpr). (stmt.Assertion assertion.Assert (place 10 11) e, 3)) (met_is items (in_loop ∷ outer) (Of INTEGER.base) (twice_written (codes "I") 10 18))
 
 turn_resolved : resolved_stmts items outer (add_written ∷ assert_written ∷ []) in_loop 3 ≡ (add_two ∷ asserting ∷ [], 3)
 turn_resolved =
@@ -244,10 +219,10 @@ with_conditions pre post =
     record double_program { subs = record double { pre = Some (record { place = place 3 5; condition = pre }); post = Some (record { place = place 4 5; condition = post }) } ∷ [] }
 
 pub made : resolved double_units ≡ double_program
-unfolding standard hidden-the_row-Expr-0 hidden
+unfolding standard hidden-the_row-Expr-0 hidden-the_row-CoreExpr-0 hidden
 made =
     resolved_as double_written (set_zero ∷ counting ∷ []) (declared_by_count count ∷ [])
     (ap (λ (first : CoreStmt × ℕ). first.0 ∷ as_body (resolved_stmt items outer counting_written region first.1)) zero_resolved
     ∙ ap (λ (second : CoreStmt × ℕ). set_zero ∷ as_body second) loop_resolved)
     parameters
-    ∙ ap₂ with_conditions (resolution_is [] (region ∷ outer) bounds_written) (resolution_is items (region ∷ outer) (twice_written (codes "N") 4 10))
+    ∙ ap₂ with_conditions (met_is [] (region ∷ outer) (Of INTEGER.base) bounds_written) (met_is items (region ∷ outer) (Of INTEGER.base) (twice_written (codes "N") 4 10))

@@ -1,21 +1,26 @@
 -- The program of the procedure `Inc` is what its units are resolved to, with its precondition and without.
 use Rattle.std.proofs.Common.{◌≡◌, [], ◌∷◌, Some, None, refl, ap, ap₂, ◌∙◌}
 use Rattle.std.specs.Prelude.{codes}
-use denote.Hole.Carrier.{roll}
+use denote.Hole.Carrier.{roll, hidden}
 use Rattle.spx_tree.specs.declared.expression.InfixOp.TheVariants as op
 use Rattle.spx_tree.specs.declared.expression.Name.TheVariants.{Attribute}
 use Rattle.spx_tree.specs.declared.expression.Expr.{Expr-F, roll-Expr, fold-roll-Expr}
 use Rattle.spx_tree.specs.declared.expression.Expr.TheVariants as written_expr
 use Rattle.spx_core.specs.declared.entity.Entity.TheVariants as entity
+use Rattle.spx_core.specs.declared.entity.TheConstants.{INTEGER}
 use Rattle.spx_core.specs.declared.expression.CoreExpr.{CoreExpr}
+use Rattle.spx_core.specs.declared.expression.CoreExpr.TheBlock.{hidden-the_row-CoreExpr-0}
 use Rattle.spx_core.specs.declared.expression.CoreExpr.TheVariants as expr
 use Rattle.spx_core.specs.declared.subprogram.Sub.{Sub}
 use Rattle.spx_core.specs.declared.program.Program.{Program}
+use Rattle.spx_core.specs.declared.rule.ExprType.TheVariants.{Of}
+use Rattle.spx_core.specs.Contexts.{in_context}
 use Rattle.spx_core.specs.Regions.{Region, Regions, denoted, standard}
-use Rattle.spx_core.specs.Resolved.{around_body, declaring, expr_step, parameters_by_stmts, resolved, resolved_expr}
+use Rattle.spx_core.specs.Resolved.{around_body, declaring, expr_step, parameters_by_stmts, resolved, resolved_condition}
 use Rattle.spx_core.proofs.Callers.LoopParameters.{parameters-Assignment}
 use Rattle.spx_examples.specs.Increment.{place, word, x_written, last_written, below_written, inc_written, inc_units, x, object, x_named, x_declared, inc_declared, below_last, successor, step, relation, inc, increment}
 use Rattle.spx_examples.specs.Refused.{units_without_pre, increment_without_pre}
+use Rattle.spx_examples.proofs.Contexts.{becomes}
 use Rattle.spx_examples.proofs.Resolving.{as_body, in_one, resolved_as, resolved_step, resolved_x}
 
 -- around the annotations and the body
@@ -31,11 +36,13 @@ regions = region ∷ outer
 pub x_denotes : denoted regions (codes "X") ≡ Some (entity.Variable x object)
 x_denotes = refl
 
-resolved_below : resolved_expr regions below_written ≡ below_last
-unfolding roll-Expr roll standard
+resolved_below : resolved_condition [] regions below_written ≡ below_last
+unfolding roll-Expr roll hidden-the_row-CoreExpr-0 hidden standard
 resolved_below =
-    fold-roll-Expr CoreExpr (expr_step [] regions) (Expr-F.Infix op.Less (place 3 11) (written_expr.Name (x_written 3 9)) last_written)
-    ∙ ap₂ (expr.Infix op.Less (place 3 11)) (resolved_x [] regions x_denotes 3 9) (fold-roll-Expr CoreExpr (expr_step [] regions) (Expr-F.Name (Attribute (word (codes "Integer") 3 13) (word (codes "Last") 3 21))))
+    ap (in_context (Of INTEGER.base))
+    (fold-roll-Expr CoreExpr (expr_step [] regions) (Expr-F.Infix op.Less (place 3 11) (written_expr.Name (x_written 3 9)) last_written)
+    ∙ ap₂ (expr.Infix op.Less (place 3 11)) (resolved_x [] regions x_denotes 3 9) (fold-roll-Expr CoreExpr (expr_step [] regions) (Expr-F.Name (Attribute (word (codes "Integer") 3 13) (word (codes "Last") 3 21)))))
+    ∙ becomes below_last refl (Of INTEGER.base)
 
 -- the program of one procedure
 abbrev of_sub : Sub → Program

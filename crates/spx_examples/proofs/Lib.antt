@@ -1,5 +1,6 @@
 mod Answers
 mod Statements
+mod Contexts
 mod Resolving
 mod Successor
 mod OneVariable

@@ -1,14 +1,10 @@
 -- The first breach of a rule on names or types, in a file of which the first procedure has one statement.
 use Rattle.std.proofs.Common.{◌≡◌, ℕ, ◌+◌, List, [], ◌∷◌, ◌++◌, length, Option, Some, None, option_map, refl, ap, ap₂, ◌∙◌}
 use Rattle.std.specs.Prelude.{⊤}
-use denote.Hole.Carrier.{roll, hidden}
 use Rattle.spx_text.specs.declared.place.Place.{Place}
 use Rattle.spx_tree.specs.declared.annotation.Predicate.{Predicate}
 use Rattle.spx_tree.specs.declared.expression.Name.{Name}
-use Rattle.spx_tree.specs.declared.expression.Name.TheVariants.{Simple, Attribute}
-use Rattle.spx_tree.specs.declared.expression.Expr.{Expr, Expr-F, roll-Expr, map-Expr, fold-roll-Expr}
-use Rattle.spx_tree.specs.declared.expression.Expr.TheBlock.{hidden-the_row-Expr-0}
-use Rattle.spx_tree.specs.declared.expression.Expr.TheVariants as written_expr
+use Rattle.spx_tree.specs.declared.expression.Expr.{Expr}
 use Rattle.spx_tree.specs.declared.statement.AssertionKind.{AssertionKind}
 use Rattle.spx_tree.specs.declared.statement.Closing.{Closing}
 use Rattle.spx_tree.specs.declared.statement.Stmt.{Stmt}
@@ -16,20 +12,22 @@ use Rattle.spx_tree.specs.declared.statement.Stmt.TheVariants as written_stmt
 use Rattle.spx_tree.specs.declared.subprogram.Subprogram.{Subprogram}
 use Rattle.spx_tree.specs.declared.subprogram.Unit.{Unit}
 use Rattle.spx_tree.specs.declared.subprogram.Unit.TheVariants as unit
-use Rattle.spx_tree.specs.Written.{applied, parenthesized, signed, operation, in_type, in_range}
 use Rattle.spx_core.specs.declared.dependency.CoreDerivesItem.{CoreDerivesItem}
-use Rattle.spx_core.specs.declared.expression.CoreExpr.{CoreExpr, CoreExpr-F}
+use Rattle.spx_core.specs.declared.entity.TheConstants.{INTEGER}
 use Rattle.spx_core.specs.declared.rule.Breach.{Breach}
+use Rattle.spx_core.specs.declared.rule.ExprType.{ExprType}
+use Rattle.spx_core.specs.declared.rule.ExprType.TheVariants.{Of}
 use Rattle.spx_core.specs.declared.rule.Typing.{Typing}
 use Rattle.spx_core.specs.Commands.{Command, commands}
+use Rattle.spx_core.specs.Contexts.{in_context}
 use Rattle.spx_core.specs.Dependency.{relation}
 use Rattle.spx_core.specs.declared.subprogram.Sub.{Sub}
-use Rattle.spx_core.specs.Judged.{Judged, ◌>>=◌, breach_in, condition, each, expr_step, if_there, judged, operand_of, referred_target}
+use Rattle.spx_core.specs.Judged.{Judged, ◌>>=◌, breach_in, condition, each, if_there, judged, operand_of, referred_target}
 use Rattle.spx_core.specs.Regions.{Region, Regions}
-use Rattle.spx_core.specs.Resolved.{around_body, at_start, counted_sub, declaring, declaring_all, formal_names, local_names, local_variables, params_of, is_changed_by, resolved_expr, resolved_function, resolved_in, resolved_name, resolved_predicate, resolved_reference, resolved_stmts, resolved_sub, resolved_subs, resolved_value, unit_name}
-use Rattle.spx_core.specs.Resolved as resolving
+use Rattle.spx_core.specs.Resolved.{around_body, at_start, counted_sub, declaring, declaring_all, formal_names, local_names, local_variables, params_of, resolved_condition, resolved_expr, resolved_in, resolved_predicate, resolved_reference, resolved_stmts, resolved_sub, resolved_subs, type_named, unit_name}
 use Rattle.spx_core.specs.Statements.{first_name_breach, judged_name, judged_command, judged_decl, judged_end, judged_item, judged_param, judged_predicate, judged_sub}
-use Rattle.spx_core.proofs.Callers.Expressions.{fold-Number, fold-Name, fold-Entry, fold-Attribute, fold-Applied, fold-Parenthesized, fold-Prefix, fold-Infix, fold-InType, fold-InRange}
+use Rattle.spx_examples.proofs.Computing.{judged_is, judged_now}
+use Rattle.spx_examples.proofs.Contexts.{met_is, met_now}
 use Rattle.spx_examples.proofs.Statements.{assignment_is, assertion_is, if_is, and_no_more}
 use Rattle.spx_examples.proofs.Resolving.{as_body, resolved_assertion, resolved_assignment, resolved_if}
 
@@ -39,65 +37,27 @@ if_written at test body closing = written_stmt.If (record { place = at; conditio
 
 -- ---- expressions
 
--- what a name is judged to be, where a value is needed
-abbrev name_now : Regions → Name → Judged Typing
-name_now around (Simple name) = expr_step (CoreExpr-F.Name (resolved_name around name))
-name_now around (Attribute prefix designator) = expr_step (CoreExpr-F.Attribute (resolved_name around prefix) designator)
-
--- what a written expression is judged to be: a fold that computes
-abbrev pub expr_now : List CoreDerivesItem → Regions → Expr → Judged Typing
-expr_now items around (written_expr.Number n place) = expr_step (CoreExpr-F.Number n place)
-expr_now items around (written_expr.Name name) = name_now around name
-expr_now items around (written_expr.Entry name) = expr_step (CoreExpr-F.Entry (resolved_name around name) (is_changed_by items (resolved_name around name)))
-expr_now items around (applied function place a) = expr_step (CoreExpr-F.Applied (resolved_function around function) place (expr_now items around a))
-expr_now items around (parenthesized place a) = expr_step (CoreExpr-F.Parenthesized place (expr_now items around a))
-expr_now items around (signed op place a) = expr_step (CoreExpr-F.Prefix op place (expr_now items around a))
-expr_now items around (operation op place a b) = expr_step (CoreExpr-F.Infix op place (expr_now items around a) (expr_now items around b))
-expr_now items around (in_type op place a name) = expr_step (CoreExpr-F.InType op place (expr_now items around a) (resolved_reference around name))
-expr_now items around (in_range op place a low high) = expr_step (CoreExpr-F.InRange op place (expr_now items around a) (expr_now items around low) (expr_now items around high))
-
 module _ (items : List CoreDerivesItem) (around : Regions) where
-  at_layer : (y : Expr-F Expr) → judged (resolved_in items around (roll-Expr y)) ≡ judged (resolving.expr_step items around (map-Expr Expr CoreExpr (resolved_in items around) y))
-  at_layer y = ap judged (fold-roll-Expr CoreExpr (resolving.expr_step items around) y)
+  -- what a written expression is judged to be where it meets this type, as a recursion that computes
+  abbrev pub judged_met : ExprType → Expr → Judged Typing
+  judged_met of e = judged_now (met_now items around of e)
 
-  judged_as : (name : Name) → judged (resolved_value around name) ≡ name_now around name
-  judged_as (Simple name) = fold-Name expr_step (resolved_name around name)
-  judged_as (Attribute prefix designator) = fold-Attribute expr_step (resolved_name around prefix) designator
+  pub judged_met_is : (of : ExprType) (e : Expr) → judged (in_context of (resolved_in items around e)) ≡ judged_met of e
+  judged_met_is of e = ap judged (met_is items around of e) ∙ judged_is (met_now items around of e)
 
-  pub judged_is : (e : Expr) → judged (resolved_in items around e) ≡ expr_now items around e
-  unfolding roll-Expr roll hidden-the_row-Expr-0 hidden
-  judged_is (written_expr.Number n place) = at_layer (Expr-F.Number n place) ∙ fold-Number expr_step n place
-  judged_is (written_expr.Name name) = at_layer (Expr-F.Name name) ∙ judged_as name
-  judged_is (written_expr.Entry name) = at_layer (Expr-F.Entry name) ∙ fold-Entry expr_step (resolved_name around name) (is_changed_by items (resolved_name around name))
-  judged_is (applied function place a) =
-      at_layer (Expr-F.Applied function place a)
-      ∙ fold-Applied expr_step (resolved_function around function) place (resolved_in items around a)
-      ∙ ap (λ j. expr_step (CoreExpr-F.Applied (resolved_function around function) place j)) (judged_is a)
-  judged_is (parenthesized place a) = at_layer (Expr-F.Parenthesized place a) ∙ fold-Parenthesized expr_step place (resolved_in items around a) ∙ ap (λ j. expr_step (CoreExpr-F.Parenthesized place j)) (judged_is a)
-  judged_is (signed op place a) = at_layer (Expr-F.Prefix op place a) ∙ fold-Prefix expr_step op place (resolved_in items around a) ∙ ap (λ j. expr_step (CoreExpr-F.Prefix op place j)) (judged_is a)
-  judged_is (operation op place a b) =
-      at_layer (Expr-F.Infix op place a b)
-      ∙ fold-Infix expr_step op place (resolved_in items around a) (resolved_in items around b)
-      ∙ ap₂ (λ j k. expr_step (CoreExpr-F.Infix op place j k)) (judged_is a) (judged_is b)
-  judged_is (in_type op place a name) =
-      at_layer (Expr-F.InType op place a name)
-      ∙ fold-InType expr_step op place (resolved_in items around a) (resolved_reference around name)
-      ∙ ap (λ j. expr_step (CoreExpr-F.InType op place j (resolved_reference around name))) (judged_is a)
-  judged_is (in_range op place a low high) =
-      at_layer (Expr-F.InRange op place a low high)
-      ∙ fold-InRange expr_step op place (resolved_in items around a) (resolved_in items around low) (resolved_in items around high)
-      ∙ ap₂ (λ j k. expr_step (CoreExpr-F.InRange op place j k (judged (resolved_in items around high)))) (judged_is a) (judged_is low)
-      ∙ ap (λ l. expr_step (CoreExpr-F.InRange op place (expr_now items around a) (expr_now items around low) l)) (judged_is high)
+  -- what a condition is judged to be
+  abbrev condition_now : Expr → Judged Typing
+  condition_now = judged_met (Of INTEGER.base)
 
   -- ---- annotations
 
   -- what a precondition or a postcondition is judged to be
   abbrev predicate_now : Predicate → Judged ⊤
-  predicate_now predicate = expr_now items around predicate.condition >>= λ t. condition t
+  predicate_now predicate = condition_now predicate.condition >>= λ t. condition t
 
   predicate_is : (predicate : Option Predicate) → if_there judged_predicate (option_map (resolved_predicate items around) predicate) ≡ if_there predicate_now predicate
   predicate_is None = refl
-  predicate_is (Some predicate) = ap (λ j. j >>= λ t. condition t) (judged_is predicate.condition)
+  predicate_is (Some predicate) = ap (λ j. j >>= λ t. condition t) (judged_met_is (Of INTEGER.base) predicate.condition)
 
 -- ---- statements
 
@@ -106,7 +66,7 @@ module _ (around : Regions) where
   abbrev pub assignment_now : Name → Expr → Judged ⊤
   assignment_now target value = do
     subtype ← referred_target (resolved_reference around target)
-    v ← expr_now [] around value
+    v ← judged_met [] around (type_named around target) value
     operand_of subtype v
 
 module _ (items : List CoreDerivesItem) (outer : Regions) (region : Region) (position : ℕ) where
@@ -120,28 +80,28 @@ module _ (items : List CoreDerivesItem) (outer : Regions) (region : Region) (pos
   pub body_is : (target : Name) (value : Expr) → judged_command (body_of (written_stmt.Assignment target value ∷ [])) ≡ and_no_more (assignment_now around target value)
   body_is target value =
       ap (λ made. judged_command (commands (as_body made))) (resolved_assignment items outer region position target value)
-      ∙ ap judged_command (assignment_is (resolved_reference around target) (resolved_expr around value))
-      ∙ ap (λ j. and_no_more (referred_target (resolved_reference around target) >>= λ subtype. j >>= λ v. operand_of subtype v)) (judged_is [] around value)
+      ∙ ap judged_command (assignment_is (resolved_reference around target) (resolved_expr (type_named around target) around value))
+      ∙ ap (λ j. and_no_more (referred_target (resolved_reference around target) >>= λ subtype. j >>= λ v. operand_of subtype v)) (judged_met_is [] around (type_named around target) value)
 
   -- what the `if` of one arm is judged to be
   abbrev if_now : Judged Typing → List Stmt → Judged ⊤
   if_now test body = (test >>= λ t. condition t) >>= λ _. and_no_more (judged_command (body_of body))
 
-  if_body : (at : Place) (test : Expr) (body : List Stmt) (closing : Closing) → judged_command (body_of (if_written at test body closing ∷ [])) ≡ and_no_more (if_now (expr_now [] around test) body)
+  if_body : (at : Place) (test : Expr) (body : List Stmt) (closing : Closing) → judged_command (body_of (if_written at test body closing ∷ [])) ≡ and_no_more (if_now (condition_now [] around test) body)
   if_body at test body closing =
       ap (λ made. judged_command (commands (as_body made))) (resolved_if items outer region position at test body closing)
-      ∙ ap judged_command (if_is at (resolved_expr around test) (resolved_stmts items outer body region position).0 closing)
-      ∙ ap (λ j. and_no_more (if_now j body)) (judged_is [] around test)
+      ∙ ap judged_command (if_is at (resolved_condition [] around test) (resolved_stmts items outer body region position).0 closing)
+      ∙ ap (λ j. and_no_more (if_now j body)) (judged_met_is [] around (Of INTEGER.base) test)
 
   -- what an `assert` or a `check` is judged to be
   abbrev assertion_now : Expr → Judged ⊤
-  assertion_now test = expr_now items around test >>= λ t. condition t
+  assertion_now test = condition_now items around test >>= λ t. condition t
 
   assertion_body : (kind : AssertionKind) (at : Place) (test : Expr) → judged_command (body_of (written_stmt.Assertion kind at test ∷ [])) ≡ and_no_more (assertion_now test)
   assertion_body kind at test =
       ap (λ made. judged_command (commands (as_body made))) (resolved_assertion items outer region position kind at test)
-      ∙ ap judged_command (assertion_is kind at (resolved_in items around test))
-      ∙ ap (λ j. and_no_more (j >>= λ t. condition t)) (judged_is items around test)
+      ∙ ap judged_command (assertion_is kind at (resolved_condition items around test))
+      ∙ ap (λ j. and_no_more (j >>= λ t. condition t)) (judged_met_is items around (Of INTEGER.base) test)
 
 -- ---- procedures
 
@@ -205,7 +165,7 @@ module _ (s : Subprogram) (others : List Unit) where
 
   -- where it is an `if` of one arm
   abbrev first_if : Expr → List Stmt → Judged ⊤
-  first_if test body = if_now (relation first) (around_body first.name) (own_names first) (first_position first) (expr_now [] (inside first) test) body
+  first_if test body = if_now (relation first) (around_body first.name) (own_names first) (first_position first) (condition_now [] (inside first) test) body
 
   pub breach_of_if : (at : Place) (test : Expr) (body : List Stmt) (closing : Closing) → s.statements ≡ if_written at test body closing ∷ []
       → first_name_breach (unit.Subprogram s ∷ others) ≡ breach_with (first_with (and_no_more (first_if test body)))

@@ -1,7 +1,7 @@
 -- What statements and expressions of the examples are resolved to.
-use Rattle.std.proofs.Common.{◌≡◌, ℕ, ◌+◌, pos, List, [], ◌∷◌, ◌++◌, Option, Some, None, map, ap, ap₂, ◌∙◌}
+use Rattle.std.proofs.Common.{◌≡◌, ℕ, ◌+◌, pos, List, [], ◌∷◌, ◌++◌, Option, Some, None, map, refl, ap, ap₂, ◌∙◌}
 use Rattle.std.specs.Prelude.{codes}
-use denote.Hole.Carrier.{roll}
+use denote.Hole.Carrier.{roll, hidden}
 use Rattle.spx_text.specs.declared.place.Place.{Place}
 use Rattle.spx_tree.specs.declared.expression.InfixOp.TheVariants as op
 use Rattle.spx_tree.specs.declared.expression.Name.{Name}
@@ -20,7 +20,9 @@ use Rattle.spx_tree.specs.declared.subprogram.Unit.TheVariants as unit
 use Rattle.spx_core.specs.declared.dependency.CoreDerivesItem.{CoreDerivesItem}
 use Rattle.spx_core.specs.declared.entity.Entity.{Entity}
 use Rattle.spx_core.specs.declared.entity.Entity.TheVariants as entity
+use Rattle.spx_core.specs.declared.entity.TheConstants.{INTEGER}
 use Rattle.spx_core.specs.declared.expression.CoreExpr.{CoreExpr}
+use Rattle.spx_core.specs.declared.expression.CoreExpr.TheBlock.{hidden-the_row-CoreExpr-0}
 use Rattle.spx_core.specs.declared.expression.CoreExpr.TheVariants as expr
 use Rattle.spx_core.specs.declared.statement.CoreStmt.{CoreStmt}
 use Rattle.spx_core.specs.declared.statement.CoreStmt.TheVariants as stmt
@@ -29,12 +31,16 @@ use Rattle.spx_core.specs.declared.statement.CoreArm.{CoreArm}
 use Rattle.spx_core.specs.declared.statement.CoreScheme.TheVariants as scheme
 use Rattle.spx_core.specs.declared.name.Defining.{Defining}
 use Rattle.spx_core.specs.declared.program.Program.{Program}
+use Rattle.spx_core.specs.declared.rule.ExprType.{ExprType}
+use Rattle.spx_core.specs.declared.rule.ExprType.TheVariants.{Of}
 use Rattle.spx_core.specs.declared.subprogram.Sub.{Sub}
+use Rattle.spx_core.specs.Contexts.{in_context}
 use Rattle.spx_core.specs.Regions.{Region, Regions, denoted}
-use Rattle.spx_core.specs.Resolved.{Part, alternative_step, arm_step, at_start, declared_by_count, declaring_all, expr_step, formal_names, local_variables, parameters_by, parameters_by_stmts, positions, program_of, resolved, resolved_alternative, resolved_arm, resolved_count, resolved_expr, resolved_in, resolved_reference, resolved_stmt, resolved_stmts, resolved_sub, stmt_step, unit_name, var_of}
+use Rattle.spx_core.specs.Resolved.{Part, alternative_step, arm_step, at_start, declared_by_count, declaring_all, expr_step, formal_names, local_variables, parameters_by, parameters_by_stmts, positions, program_of, resolved, resolved_alternative, resolved_arm, resolved_condition, resolved_count, resolved_expr, resolved_in, resolved_reference, resolved_stmt, resolved_stmts, resolved_sub, stmt_step, type_named, unit_name, var_of}
 use Rattle.spx_examples.specs.Increment.{place, word, x_written, successor_written, x, object, x_at, x_named, successor}
 use Rattle.spx_examples.specs.Branches.{arm}
 use Rattle.spx_examples.specs.Next.{below_hundred_at, below_written}
+use Rattle.spx_examples.proofs.Contexts.{becomes}
 
 -- X denotes the variable
 abbrev XDenotes : Regions → Type 0
@@ -59,7 +65,7 @@ module _ (items : List CoreDerivesItem) (outer : Regions) (region : Region) (pos
   here part = part region position
 
   pub resolved_assignment : (target : Name) (value : Expr)
-      → here (resolved_stmt items outer (written_stmt.Assignment target value)) ≡ (stmt.Assignment (resolved_reference around target) (resolved_expr around value), position)
+      → here (resolved_stmt items outer (written_stmt.Assignment target value)) ≡ (stmt.Assignment (resolved_reference around target) (resolved_expr (type_named around target) around value), position)
   unfolding roll-Stmt roll
   resolved_assignment target value = ap here (stmt_of items outer (Stmt-F.Assignment target value))
 
@@ -68,7 +74,7 @@ module _ (items : List CoreDerivesItem) (outer : Regions) (region : Region) (pos
 
   pub resolved_if : (at : Place) (condition : Expr) (body : List Stmt) (closing : Closing)
       → here (resolved_stmt items outer (written_stmt.If (written_arm at condition body ∷ []) None closing))
-      ≡ (stmt.If (arm at (resolved_expr around condition) (here (resolved_stmts items outer body)).0 ∷ []) None closing, (here (resolved_stmts items outer body)).1)
+      ≡ (stmt.If (arm at (resolved_condition [] around condition) (here (resolved_stmts items outer body)).0 ∷ []) None closing, (here (resolved_stmts items outer body)).1)
   unfolding roll-Stmt roll
   resolved_if at condition body closing =
       ap here (stmt_of items outer (Stmt-F.If (written_arm at condition body ∷ []) None closing))
@@ -77,7 +83,7 @@ module _ (items : List CoreDerivesItem) (outer : Regions) (region : Region) (pos
 
   pub resolved_while : (at : Place) (condition : Expr) (loop_word : Place) (body : List Stmt) (closing : Closing)
       → here (resolved_stmt items outer (written_stmt.Loop (written_scheme.While at condition) loop_word body closing))
-      ≡ (stmt.Loop (scheme.While at (resolved_expr around condition)) loop_word (resolved_stmts items outer body region (position + 0)).0 closing, (resolved_stmts items outer body region (position + 0)).1)
+      ≡ (stmt.Loop (scheme.While at (resolved_condition [] around condition)) loop_word (resolved_stmts items outer body region (position + 0)).0 closing, (resolved_stmts items outer body region (position + 0)).1)
   unfolding roll-Stmt roll
   resolved_while at condition loop_word body closing = ap here (stmt_of items outer (Stmt-F.Loop (written_scheme.While at condition) loop_word body closing))
 
@@ -98,37 +104,41 @@ module _ (items : List CoreDerivesItem) (outer : Regions) (region : Region) (pos
   unfolding roll-Stmt roll
   resolved_endless loop_word body closing = ap here (stmt_of items outer (Stmt-F.Loop written_scheme.Endless loop_word body closing))
 
-  pub resolved_exit : (at : Place) (condition : Expr) → here (resolved_stmt items outer (written_stmt.Exit at (Some condition))) ≡ (stmt.Exit at (Some (resolved_expr around condition)), position)
+  pub resolved_exit : (at : Place) (condition : Expr) → here (resolved_stmt items outer (written_stmt.Exit at (Some condition))) ≡ (stmt.Exit at (Some (resolved_condition [] around condition)), position)
   unfolding roll-Stmt roll
   resolved_exit at condition = ap here (stmt_of items outer (Stmt-F.Exit at (Some condition)))
 
   pub resolved_assertion : (kind : AssertionKind) (at : Place) (condition : Expr)
-      → here (resolved_stmt items outer (written_stmt.Assertion kind at condition)) ≡ (stmt.Assertion kind at (resolved_in items around condition), position)
+      → here (resolved_stmt items outer (written_stmt.Assertion kind at condition)) ≡ (stmt.Assertion kind at (resolved_condition items around condition), position)
   unfolding roll-Stmt roll
   resolved_assertion kind at condition = ap here (stmt_of items outer (Stmt-F.Assertion kind at condition))
 
 module _ (around : Regions) where
   -- where X denotes the variable
   module _ (is : XDenotes around) where
-    resolved_successor : (line column : ℕ) → resolved_expr around (successor_written line column) ≡ successor line column
-    unfolding roll-Expr roll
-    resolved_successor line column =
-        fold-roll-Expr CoreExpr (expr_step [] around) (Expr-F.Infix op.Add (place line (column + 2)) (written_expr.Name (x_written line column)) (written_expr.Number (pos 1) (place line (column + 4))))
-        ∙ ap₂ (expr.Infix op.Add (place line (column + 2))) (resolved_x [] around is line column) (fold-roll-Expr CoreExpr (expr_step [] around) (Expr-F.Number (pos 1) (place line (column + 4))))
+    resolved_successor : (of : ExprType) (line column : ℕ) → resolved_expr of around (successor_written line column) ≡ successor line column
+    unfolding roll-Expr roll hidden-the_row-CoreExpr-0 hidden
+    resolved_successor of line column =
+        ap (in_context of)
+        (fold-roll-Expr CoreExpr (expr_step [] around) (Expr-F.Infix op.Add (place line (column + 2)) (written_expr.Name (x_written line column)) (written_expr.Number (pos 1) (place line (column + 4))))
+        ∙ ap₂ (expr.Infix op.Add (place line (column + 2))) (resolved_x [] around is line column) (fold-roll-Expr CoreExpr (expr_step [] around) (Expr-F.Number (pos 1) (place line (column + 4)))))
+        ∙ becomes (successor line column) refl of
 
     -- `X < 100`
-    pub resolved_below : (line column : ℕ) → resolved_expr around (below_written line column) ≡ below_hundred_at line column
-    unfolding roll-Expr roll
+    pub resolved_below : (line column : ℕ) → resolved_condition [] around (below_written line column) ≡ below_hundred_at line column
+    unfolding roll-Expr roll hidden-the_row-CoreExpr-0 hidden
     resolved_below line column =
-        fold-roll-Expr CoreExpr (expr_step [] around) (Expr-F.Infix op.Less (place line (column + 2)) (written_expr.Name (x_written line column)) (written_expr.Number (pos 100) (place line (column + 4))))
-        ∙ ap₂ (expr.Infix op.Less (place line (column + 2))) (resolved_x [] around is line column) (fold-roll-Expr CoreExpr (expr_step [] around) (Expr-F.Number (pos 100) (place line (column + 4))))
+        ap (in_context (Of INTEGER.base))
+        (fold-roll-Expr CoreExpr (expr_step [] around) (Expr-F.Infix op.Less (place line (column + 2)) (written_expr.Name (x_written line column)) (written_expr.Number (pos 100) (place line (column + 4))))
+        ∙ ap₂ (expr.Infix op.Less (place line (column + 2))) (resolved_x [] around is line column) (fold-roll-Expr CoreExpr (expr_step [] around) (Expr-F.Number (pos 100) (place line (column + 4)))))
+        ∙ becomes (below_hundred_at line column) refl (Of INTEGER.base)
 
 -- `X := X + 1`
 pub resolved_step : (items : List CoreDerivesItem) (outer : Regions) (region : Region) (position : ℕ) → XDenotes (region ∷ outer) → (line target value : ℕ)
     → resolved_stmt items outer (written_stmt.Assignment (x_written line target) (successor_written line value)) region position ≡ (stmt.Assignment (x_named line target) (successor line value), position)
 resolved_step items outer region position is line target value =
     resolved_assignment items outer region position (x_written line target) (successor_written line value)
-    ∙ ap₂ (λ (e : Option Entity) v. (stmt.Assignment (record { root = record { name = word (codes "X") line target; entity = e }; way = [] }) v, position)) is (resolved_successor (region ∷ outer) is line value)
+    ∙ ap₂ (λ (e : Option Entity) v. (stmt.Assignment (record { root = record { name = word (codes "X") line target; entity = e }; way = [] }) v, position)) is (resolved_successor (region ∷ outer) is (type_named (region ∷ outer) (x_written line target)) line value)
 
 -- ---- programs
 

@@ -17,6 +17,7 @@ use Rattle.spx_tree.specs.declared.statement.Stmt.TheVariants as written_stmt
 use Rattle.spx_tree.specs.Written.{applied, parenthesized, signed, operation, in_type, in_range}
 use Rattle.spx_core.specs.declared.dependency.CoreDerivesItem.{CoreDerivesItem}
 use Rattle.spx_core.specs.declared.entity.Entity.TheVariants as entity
+use Rattle.spx_core.specs.declared.entity.TheConstants.{INTEGER}
 use Rattle.spx_core.specs.declared.expression.CoreExpr.{CoreExpr}
 use Rattle.spx_core.specs.declared.expression.CoreExpr.TheVariants as expr
 use Rattle.spx_core.specs.declared.expression.CoreExpr.TheVariants.{outs-Name}
@@ -25,6 +26,7 @@ use Rattle.spx_core.specs.declared.function.Span.{Span}
 use Rattle.spx_core.specs.declared.name.CoreName.{CoreName}
 use Rattle.spx_core.specs.declared.name.Defining.{Defining}
 use Rattle.spx_core.specs.declared.rule.ExprType.{ExprType}
+use Rattle.spx_core.specs.declared.rule.ExprType.TheVariants.{Of, Universal}
 use Rattle.spx_core.specs.declared.rule.RuleName.TheVariants.{N10, N12, N17}
 use Rattle.spx_core.specs.declared.rule.Typing.{Typing}
 use Rattle.spx_core.specs.declared.statement.CoreAlternative.{CoreAlternative, fold-roll-CoreAlternative}
@@ -33,18 +35,21 @@ use Rattle.spx_core.specs.declared.statement.CoreChoice.{CoreChoice}
 use Rattle.spx_core.specs.declared.statement.CoreStmt.{CoreStmt, CoreStmt-F, roll-CoreStmt, fold-roll-CoreStmt}
 use Rattle.spx_core.specs.declared.statement.CoreStmt.TheVariants as stmt
 use Rattle.spx_core.specs.Commands.{Command, Skip, Then, Select, Alternatives, Last, When, alternative_step, arm_step, choices_in, commands, has_others_last, listed, stmt_step}
+use Rattle.spx_core.specs.Contexts.{in_context}
 use Rattle.spx_core.specs.Dependency.{relation}
 use Rattle.spx_core.specs.Extents.{extent, extent-Name, extent_in, extent_named, type_judged, with_static}
 use Rattle.spx_core.specs.Judged.{Judged, ◌>>=◌, application, each, expr_step, if_there, judged, keeps, mapped, named_value}
 use Rattle.spx_core.specs.Places.{place_in, place_of}
 use Rattle.spx_core.specs.Regions.{Region, Regions}
-use Rattle.spx_core.specs.Resolved.{Part, around_body, choice_of, or_zero, resolved_alternative, resolved_choice, resolved_expr, resolved_name, resolved_stmt, value_in}
+use Rattle.spx_core.specs.Resolved.{Part, around_body, choice_of, or_zero, resolved_alternative, resolved_choice, resolved_condition, resolved_expr, resolved_name, resolved_static, resolved_stmt, value_in}
 use Rattle.spx_core.specs.Resolved as resolving
 use Rattle.spx_core.specs.Shapes as shape
 use Rattle.spx_core.specs.Statements.{are_given_once, first_name_breach, judged_command, static_at}
 use Rattle.spx_core.specs.Types.{is_ordered, is_same_type, lies_in}
 use Rattle.spx_core.specs.Uses.{variable_of}
 use Rattle.spx_core.proofs.Callers.Expressions.{fold-Applied, fold-Name}
+use Rattle.spx_context.specs.Powers.{power_step}
+use Rattle.spx_context.proofs.Unchanged.{unchanged}
 use Rattle.spx_meaning.specs.Evaluation.{Answer, Gives, eval, eval-Applied, mapping_checked, read, static_or, with_value}
 use Rattle.spx_meaning.specs.Frames.{Frame, around as surrounded}
 use Rattle.spx_meaning.specs.Literals.{literal_in}
@@ -76,6 +81,7 @@ judgement_is (expr.Entry name allowed) = refl
 judgement_is (expr.Attribute prefix designator) = refl
 judgement_is (shape.applied_of function place b) = refl
 judgement_is (shape.parenthesized_of place b) = refl
+judgement_is (shape.implicit_of base place b) = refl
 judgement_is (shape.prefix_of op place b) = refl
 judgement_is (shape.infix_of op place b c) = refl
 judgement_is (shape.in_type_of op place b name) = refl
@@ -91,22 +97,24 @@ extent_is name =
     ∙ ap₂ (λ j out. with_static (value_in j) (extent_in (type_judged j) out)) (fold-Name expr_step name) (outs-Name name)
 
 module _ (around : Regions) where
-  abbrev resolved_now : Expr → CoreExpr
-  resolved_now (written_expr.Name (Simple name)) = expr.Name (resolved_name around name)
-  resolved_now e = resolved_expr around e
+  abbrev resolved_now : ExprType → Expr → CoreExpr
+  resolved_now of (written_expr.Name (Simple name)) = expr.Name (resolved_name around name)
+  resolved_now of e = resolved_expr of around e
 
-  resolution_is : (e : Expr) → resolved_expr around e ≡ resolved_now e
+  resolution_is : (of : ExprType) (e : Expr) → resolved_expr of around e ≡ resolved_now of e
   unfolding roll-Expr roll
-  resolution_is (written_expr.Name (Simple name)) = fold-roll-Expr CoreExpr (resolving.expr_step [] around) (Expr-F.Name (Simple name))
-  resolution_is (written_expr.Name (Attribute prefix designator)) = refl
-  resolution_is (written_expr.Number n place) = refl
-  resolution_is (written_expr.Entry name) = refl
-  resolution_is (applied function place b) = refl
-  resolution_is (parenthesized place b) = refl
-  resolution_is (signed op place b) = refl
-  resolution_is (operation op place b c) = refl
-  resolution_is (in_type op place b name) = refl
-  resolution_is (in_range op place b low high) = refl
+  resolution_is of (written_expr.Name (Simple name)) =
+      ap (in_context of) (fold-roll-Expr CoreExpr (resolving.expr_step [] around) (Expr-F.Name (Simple name)))
+      ∙ unchanged of (expr.Name (resolved_name around name)) (fold-Name power_step (resolved_name around name))
+  resolution_is of (written_expr.Name (Attribute prefix designator)) = refl
+  resolution_is of (written_expr.Number n place) = refl
+  resolution_is of (written_expr.Entry name) = refl
+  resolution_is of (applied function place b) = refl
+  resolution_is of (parenthesized place b) = refl
+  resolution_is of (signed op place b) = refl
+  resolution_is of (operation op place b c) = refl
+  resolution_is of (in_type op place b name) = refl
+  resolution_is of (in_range op place b low high) = refl
 
 -- ---- a `case` of two alternatives that do nothing
 
@@ -174,17 +182,17 @@ span_is low (Some high) = refl
 
 module _ (around : Regions) where
   abbrev choices_now : Option (List Choice) → Option (List CoreChoice)
-  choices_now choices = option_map (map (choice_by judged_now (resolved_now around))) choices
+  choices_now choices = option_map (map (choice_by judged_now (resolved_now around Universal))) choices
 
   -- what the `case` is judged to be
   abbrev case_now : Place → Identifier → (first second : Option (List Choice)) → Judged ⊤
   case_now at selector first second =
       case_by judged_now at (expr.Name (resolved_name around selector)) (extent_now (resolved_name around selector)) (choices_now first) (choices_now second)
 
-  choice_is : (c : Choice) → resolved_choice around c ≡ choice_by judged_now (resolved_now around) c
+  choice_is : (c : Choice) → resolved_choice around c ≡ choice_by judged_now (resolved_now around Universal) c
   choice_is c =
-      ap (λ (s : Span). record { low = resolved_expr around c.low; high = option_map (resolved_expr around) c.high; span = s }) (span_is (resolved_expr around c.low) (option_map (resolved_expr around) c.high))
-      ∙ ap₂ (λ j r. choice_by j r c) (fun_ext judgement_is) (fun_ext (resolution_is around))
+      ap (λ (s : Span). record { low = resolved_static around c.low; high = option_map (resolved_static around) c.high; span = s }) (span_is (resolved_static around c.low) (option_map (resolved_static around) c.high))
+      ∙ ap₂ (λ j r. choice_by j r c) (fun_ext judgement_is) (fun_ext (resolution_is around Universal))
 
 module _ (items : List CoreDerivesItem) (outer : Regions) (region : Region) (position : ℕ) where
   abbrev around_case : Regions
@@ -207,11 +215,11 @@ module _ (items : List CoreDerivesItem) (outer : Regions) (region : Region) (pos
 
   -- the whole, where its alternatives are these
   abbrev case_with : Place → Identifier → Closing → CoreAlternative × ℕ → CoreAlternative × ℕ → CoreStmt × ℕ
-  case_with at selector closing b c = (stmt.Case at (resolved_expr around_case (written_expr.Name (Simple selector))) (b.0 ∷ c.0 ∷ []) closing, c.1)
+  case_with at selector closing b c = (stmt.Case at (resolved_condition [] around_case (written_expr.Name (Simple selector))) (b.0 ∷ c.0 ∷ []) closing, c.1)
 
   resolved_case : (at : Place) (selector : Identifier) (first second : Option (List Choice)) (p q : Place) (closing : Closing)
       → resolved_stmt items outer (case_written at selector first second p q closing) region position
-      ≡ (stmt.Case at (resolved_expr around_case (written_expr.Name (Simple selector))) (core first p ∷ core second q ∷ []) closing, position)
+      ≡ (stmt.Case at (resolved_condition [] around_case (written_expr.Name (Simple selector))) (core first p ∷ core second q ∷ []) closing, position)
   unfolding roll-Stmt roll
   resolved_case at selector first second p q closing =
       ap (here items outer region position)
@@ -223,13 +231,13 @@ module _ (items : List CoreDerivesItem) (outer : Regions) (region : Region) (pos
       → judged_command (body_of items outer region position (case_written at selector first second p q closing ∷ [])) ≡ and_no_more (case_now around_case at selector first second)
   case_body at selector first second p q closing =
       let around : Regions = around_case in
-      let e : CoreExpr = resolved_expr around (written_expr.Name (Simple selector)) in
+      let e : CoreExpr = resolved_condition [] around (written_expr.Name (Simple selector)) in
       let name : CoreName = resolved_name around selector in
       ap (λ made. judged_command (commands (as_body made))) (resolved_case at selector first second p q closing)
       ∙ ap judged_command (command_is at e (option_map (map (resolved_choice around)) first) (option_map (map (resolved_choice around)) second) (stmt.Null p ∷ []) (stmt.Null q ∷ []) closing)
       ∙ ap₂ (λ (b c : Command). judged_command (Then (Select at e (When (option_map (map (resolved_choice around)) first) b (Last (option_map (map (resolved_choice around)) second) c))) Skip)) (null_is p) (null_is q)
       ∙ ap (λ (f : Choice → CoreChoice). and_no_more (case_by judged at e (extent e) (option_map (map f) first) (option_map (map f) second))) (fun_ext (choice_is around))
-      ∙ ap (λ (d : CoreExpr). and_no_more (case_by judged at d (extent d) (choices_now around first) (choices_now around second))) (resolution_is around (written_expr.Name (Simple selector)))
+      ∙ ap (λ (d : CoreExpr). and_no_more (case_by judged at d (extent d) (choices_now around first) (choices_now around second))) (resolution_is around (Of INTEGER.base) (written_expr.Name (Simple selector)))
       ∙ ap₂ (λ (j : CoreExpr → Judged Typing) (values : Span). and_no_more (case_by j at (expr.Name name) values (choices_now around first) (choices_now around second))) (fun_ext judgement_is) (extent_is name)
 
 pub case_breach : (ds : List Decl) (at : Place) (selector : Identifier) (first second : Option (List Choice)) (p q : Place) (closing : Closing)
