@@ -8,9 +8,9 @@ use Rattle.spx_core.specs.declared.name.CoreName.{CoreName}
 use Rattle.spx_core.specs.Formals.{stands_in}
 use Rattle.spx_core.specs.Uses.{is_same}
 use Rattle.spx_core.specs.Reads.{names_step}
-use Rattle.spx_core.specs.Effects.{Effect, Read, assign, effect, endless, exit, next, nothing, read_of}
-use Rattle.spx_core.specs.Flow.{MayFlow, Steps, stay, advance}
-use Rattle.spx_core.specs.Ways.{Exits, Free, Goes, Reaches, Turns, no_turn}
+use Rattle.spx_core.specs.Effects.{Effect, assign, effect, endless, exit, next, nothing, read_of}
+use Rattle.spx_core.specs.Flow.{MayFlow, stay, advance}
+use Rattle.spx_core.specs.Ways.{Free, Goes, Reaches, no_turn}
 use Rattle.spx_core.proofs.Callers.Expressions.{fold-Name, fold-Number}
 use Rattle.spx_examples.specs.Exits.{after_never_left, exit_first, exit_last, never_left, set_and_exit}
 use Rattle.spx_examples.specs.Flag.{y}

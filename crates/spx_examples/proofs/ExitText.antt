@@ -18,7 +18,7 @@ use Rattle.spx_core.specs.declared.name.Defining.{Defining}
 use Rattle.spx_core.specs.declared.statement.CoreScheme.TheVariants as scheme
 use Rattle.spx_core.specs.declared.statement.CoreStmt.{CoreStmt}
 use Rattle.spx_core.specs.declared.statement.CoreStmt.TheVariants as stmt
-use Rattle.spx_core.specs.Commands.{Command, Skip, Then, commands, exit_where}
+use Rattle.spx_core.specs.Commands.{Command, Then, commands}
 use Rattle.spx_core.specs.Regions.{standard}
 use Rattle.spx_core.specs.Resolved.{parameters_by_stmts, resolved, resolved_stmt, resolved_stmts}
 use Rattle.spx_core.proofs.Callers.CommandForms.{command-Assignment, command-Endless, command-Exit}

@@ -1,6 +1,5 @@
 -- Runs of loops that are left by exits.
-use Rattle.std.proofs.Common.{◌≡◌, ℕ, zero, suc, pos, if◌then◌else◌, Some, refl, ap, ap₂, ◌∙◌}
-use Rattle.spx_core.specs.Commands.{Then, Leave}
+use Rattle.std.proofs.Common.{◌≡◌, ℕ, zero, suc, pos, if◌then◌else◌, Some, refl, ap, ◌∙◌}
 use Rattle.spx_term.specs.Meaning.{as_truth, value_of_op}
 use Rattle.spx_meaning.specs.Stores.{Store}
 use Rattle.spx_meaning.specs.Frames.{Frame}

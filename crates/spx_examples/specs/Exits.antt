@@ -1,5 +1,5 @@
 -- Loops without a head, and exits, as commands over the variables of `Loops`. A loop has its word in line 5, and its body in the lines after it.
-use Rattle.std.specs.Prelude.{pos, Option, Some}
+use Rattle.std.specs.Prelude.{Option, Some}
 use Rattle.spx_core.specs.declared.expression.CoreExpr.TheVariants as expr
 use Rattle.spx_core.specs.declared.rule.Breach.{Breach}
 use Rattle.spx_core.specs.declared.statement.Around.TheVariants as around
