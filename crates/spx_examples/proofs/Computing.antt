@@ -1,5 +1,5 @@
 -- Folds over expressions and terms, as recursions that compute where their arguments do: what expressions are judged to be, the terms and checks of names,
--- numbers and operations, and the conditions of trees.
+-- numbers, conversions that are not written and operations, and the conditions of trees.
 use Rattle.std.proofs.Common.{◌≡◌, Bool, if◌then◌else◌, List, [], ◌∷◌, ◌++◌, map, refl, ap, ap₂, ◌∙◌}
 use Rattle.std.proofs.Math.Path.{fun_ext}
 use Rattle.std.specs.List.{filter_map, list_all}
@@ -30,8 +30,8 @@ use Rattle.spx_term.specs.Steps.{Tree, Cut, Assume, Assign, Fresh, Prove, Split,
 use Rattle.spx_term.proofs.Terms as terms
 use Rattle.spx_meaning.specs.Evaluation.{term_op}
 use Rattle.spx_meaning.specs.Literals.{base_judged, literal_in}
-use Rattle.spx_paths.specs.Checks.{checks, checks-Infix, checks-Name, checks-Number, operation_check, right_lefts, unless_static}
-use Rattle.spx_formula.specs.Terms.{literal_or, named, now_term, term_of, term_with, term_with-Infix, term_with-Name, term_with-Number}
+use Rattle.spx_paths.specs.Checks.{checks, checks-Implicit, checks-Infix, checks-Name, checks-Number, operation_check, right_lefts, unless_static}
+use Rattle.spx_formula.specs.Terms.{literal_or, named, now_term, term_of, term_with, term_with-Implicit, term_with-Infix, term_with-Name, term_with-Number}
 use Rattle.spx_paths.specs.Walks.{is_fixed, keeps_value}
 
 -- ---- expressions
@@ -128,6 +128,7 @@ module _ (present entered : VarId → Term) where
   term_now (expr.Number n place) = term.Number n
   term_now (expr.Name name) = literal_or (literal_in (judged_now (expr.Name name))) (named present (variable_of name.entity))
   term_now (shape.infix_of op place a b) = literal_or (literal_in (judged_now (shape.infix_of op place a b))) (term.Infix (term_op op) (term_now a) (term_now b))
+  term_now (shape.implicit_of base place a) = term_now a
   term_now e = term_with present entered e
 
   pub term_is : (e : CoreExpr) → term_with present entered e ≡ term_now e
@@ -141,7 +142,7 @@ module _ (present entered : VarId → Term) where
   term_is (expr.Attribute prefix designator) = refl
   term_is (shape.applied_of function place a) = refl
   term_is (shape.parenthesized_of place a) = refl
-  term_is (shape.implicit_of base place a) = refl
+  term_is (shape.implicit_of base place a) = term_with-Implicit present entered base place a ∙ term_is a
   term_is (shape.prefix_of op place a) = refl
   term_is (shape.in_type_of op place a name) = refl
   term_is (shape.in_range_of op place a low high) = refl
@@ -159,6 +160,7 @@ module _ (p : Program) (entered : VarId → Term) where
       unless_static (literal_in (judged_now (shape.infix_of op place a b))) rest
       (checks_now lefts a (checks_now (right_lefts op lefts (now a)) b
       (operation_check lefts op (base_judged (judged_now (shape.infix_of op place a b))) place (place_now b) (now b) (now (shape.infix_of op place a b)) rest)))
+  checks_now lefts (shape.implicit_of base place a) rest = checks_now lefts a rest
   checks_now lefts e rest = checks p entered lefts e rest
 
   pub checks_are : (lefts : List Term) (e : CoreExpr) (rest : Tree) → checks p entered lefts e rest ≡ checks_now lefts e rest
@@ -181,7 +183,7 @@ module _ (p : Program) (entered : VarId → Term) where
   checks_are lefts (expr.Attribute prefix designator) rest = refl
   checks_are lefts (shape.applied_of function place a) rest = refl
   checks_are lefts (shape.parenthesized_of place a) rest = refl
-  checks_are lefts (shape.implicit_of base place a) rest = refl
+  checks_are lefts (shape.implicit_of base place a) rest = checks-Implicit p entered lefts base place a rest ∙ checks_are lefts a rest
   checks_are lefts (shape.prefix_of op place a) rest = refl
   checks_are lefts (shape.in_type_of op place a name) rest = refl
   checks_are lefts (shape.in_range_of op place a low high) rest = refl

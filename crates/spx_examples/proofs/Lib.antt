@@ -65,6 +65,7 @@ mod CountedLoops
 mod CountedFlows
 mod CountedCuts
 mod Computing
+mod Powers
 mod Doubling
 mod DoublingText
 mod BadRuns

@@ -108,6 +108,12 @@ module _ (items : List CoreDerivesItem) (outer : Regions) (region : Region) (pos
   unfolding roll-Stmt roll
   resolved_exit at condition = ap here (stmt_of items outer (Stmt-F.Exit at (Some condition)))
 
+  -- without alternatives
+  pub resolved_selector : (at : Place) (selector : Expr) (closing : Closing)
+      → here (resolved_stmt items outer (written_stmt.Case at selector [] closing)) ≡ (stmt.Case at (resolved_condition [] around selector) [] closing, position)
+  unfolding roll-Stmt roll
+  resolved_selector at selector closing = ap here (stmt_of items outer (Stmt-F.Case at selector [] closing))
+
   pub resolved_assertion : (kind : AssertionKind) (at : Place) (condition : Expr)
       → here (resolved_stmt items outer (written_stmt.Assertion kind at condition)) ≡ (stmt.Assertion kind at (resolved_condition items around condition), position)
   unfolding roll-Stmt roll

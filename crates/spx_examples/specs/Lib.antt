@@ -16,6 +16,7 @@ pub mod Sequents
 pub mod Found
 pub mod Findings
 pub mod Declarations
+pub mod Powers
 pub mod Selections
 pub mod Assertions
 pub mod AssertionText
