@@ -1323,11 +1323,11 @@ def taking(expression, kind):
 
 def converted(part, kind):
     """A part of an open expression that takes this kind. N12 is at it where it comes in the text, before what is after it."""
-    if is_open(part):
-        return taking(part, kind)
-    if not kind.has(part.value):
+    is_number = part.kind is UNIVERSAL and part.value is not None
+    if is_number and not kind.has(part.value):
         OUTSIDE.append(part.place)
-    return part
+        return part
+    return taking(part, kind)
 
 
 def whole(expression):
