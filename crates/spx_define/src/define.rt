@@ -345,7 +345,7 @@ fn listed(alloc: Global, imports: &VarSet, found: &Reads) -> Result<Vec<(Place, 
         .collect(alloc)
 }
 
-/// The reads of variables that may be unset, which are gathered in `found`, an empty set.
+/// The reads of variables that may be unset in a body that is these items, which are gathered in `found`, an empty set.
 fn gather_unset_reads(
     alloc: Global,
     program: &Program,
@@ -366,6 +366,20 @@ fn gather_unset_reads(
     listed(alloc, &imports, found)
 }
 
+/// The unset reads of a subprogram whose body is these items.
+pub fn unset_reads_in(
+    alloc: Global,
+    program: &Program,
+    sub: &Sub,
+    items: &[Item],
+) -> Result<Vec<(Place, VarId)>, AllocError>
+    requires { effect_in items.now ≡ effects sub.now.statements }
+    ensures { IfOk result (λ found. AreUnsetReads program.now sub.now found.items) }
+{
+    let mut found = IndexSet::new(alloc);
+    gather_unset_reads(alloc, program, sub, items, &mut found)
+}
+
 /// The reads of variables that may be unset, at the name, and the exports that may be left so, at the word `end`.
 pub fn unset_reads(
     alloc: Global,
@@ -377,6 +391,5 @@ pub fn unset_reads(
 {
     let sub = &program.subs.as_slice()[id.0];
     let items = lower(alloc, sub.statements.as_slice())?;
-    let mut found = IndexSet::new(alloc);
-    gather_unset_reads(alloc, program, sub, items.as_slice(), &mut found)
+    unset_reads_in(alloc, program, sub, items.as_slice())
 }

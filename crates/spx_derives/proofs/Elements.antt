@@ -1,9 +1,18 @@
 -- Elements of lists, and lists in which each stands once.
-use Rattle.std.proofs.Common.{◌≡◌, ◌≢◌, ◌⊎◌, ℕ, zero, suc, ◌<◌, List, [], ◌∷◌, ◌++◌, map, length, get_or, Option, Some, None, refl, sym, ap, subst, inl, inr, ⊎_elim, arith}
+use Rattle.std.proofs.Common.{◌≡◌, ◌≢◌, ◌⊎◌, ℕ, zero, suc, ◌<◌, List, [], ◌∷◌, ◌++◌, map, length, get_or, Option, Some, None, refl, slice_get, sym, ap, subst, ◌∙◌, inl, inr, ⊎_elim, arith}
 use Rattle.std.specs.Prelude.{⊤, Contains}
 use Rattle.std.specs.List.{AllPairs}
 use Rattle.std.specs.Option.{option_to_list}
+use Rattle.std.proofs.lemmas.Option.{slice_get_read}
+use Rattle.spx_core.specs.declared.subprogram.Sub.{Sub}
 use Rattle.std.proofs.lemmas.List.Elements.{Contains-get_or, Contains-append_cases}
+
+-- the element of a slice is that of the list
+pub sub_is : (subs slice : List Sub) (id : ℕ) (sub : Sub) → slice ≡ subs → sub ≡ get_or slice id sub → sub ≡ get_or subs id sub
+sub_is subs slice id sub same is = is ∙ ap (λ list. get_or list id sub) same
+
+pub sub_at : (subs slice : List Sub) (id : ℕ) (sub : Sub) → id < length subs → slice ≡ subs → sub ≡ get_or slice id sub → slice_get subs id ≡ Some sub
+sub_at subs slice id sub within same is = slice_get_read subs (length subs) id sub refl within (sub_is subs slice id sub same is)
 
 pub just : {A : Type 0} (a b : A) → Some a ≡ Some b → a ≡ b
 just a b e = cc

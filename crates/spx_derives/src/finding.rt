@@ -4,7 +4,7 @@ use spx_core::VarId;
 use spx_text::Place;
 
 /// What a declared dependency relation and a body disagree on.
-#[derive(Clone, Copy, Debug, PartialEq, Eq)]
+#[derive(Clone, Copy, PartialEq, Eq)]
 pub enum FlowFinding {
     /// At the export: the flow from the first variable to the second is not declared.
     Missing(Place, VarId, VarId),

@@ -4,12 +4,12 @@ ghost use Rattle.std.specs.List.{IsDistinct};
 ghost use Rattle.spx_core.specs.declared.entity.VarId.{VarId};
 ghost use Rattle.spx_core.specs.declared.subprogram.Sub.{Sub};
 ghost use Rattle.spx_core.specs.Erased.{Visible};
-ghost use Rattle.spx_core.specs.Effects.{sets};
+ghost use Rattle.spx_core.specs.Effects.{effects, sets};
 ghost use Rattle.spx_core.specs.Mirror.VarSets.{holds, positions_of};
 ghost use Rattle.spx_lower.specs.Meaning.{effect_in};
 ghost use Rattle.spx_core.specs.FlowRules.{is_wide, most_variables};
 ghost use Rattle.spx_passes.specs.Positions.{exits_in};
-ghost use Rattle.spx_flow.specs.Flows.{BodyCovered, IsBackwardFlow, IsFaultOf, IsFlow};
+ghost use Rattle.spx_flow.specs.Flows.{BodyCovered, IsBackwardFlow, IsBodyFlow, IsFaultOf, IsFlow};
 
 use crate::fault::{FlowFault, MOST_VARIABLES};
 use spx_core::laws::names_are_scoped;
@@ -31,6 +31,13 @@ pub struct Flow {
     pub rho: Relation,
     /// The variables that the body sets.
     pub defines: VarSet,
+}
+
+/// A body as items, and what leads on to the variables after it.
+#[derive(Drop)]
+pub struct BodyFlow {
+    pub items: Items<Item>,
+    pub back: BackwardFlow,
 }
 
 /// The variables that the items set.
@@ -55,29 +62,39 @@ fn frame_of(alloc: Global, sub: &Sub, items: &[Item]) -> Result<Frame, AllocErro
     Ok(Frame { vars, has_exits })
 }
 
-/// What leads on to the variables after a body whose variables are the subprogram's.
-fn backward_in(alloc: Global, sub: &Sub) -> Result<BackwardFlow, AllocError>
+/// What leads on to the variables after a body that is these items.
+fn backward_in(alloc: Global, sub: &Sub, items: &[Item]) -> Result<BackwardFlow, AllocError>
     requires once { IsDistinct (λ (v : VarId) (w : VarId). w.0 == v.0) sub.now.vars }
     requires covers { BodyCovered sub.now }
     requires size { length sub.now.vars ≤ most_variables }
+    requires items { effect_in items.now ≡ effects sub.now.statements }
     ensures { IfOk result (λ back. IsBackwardFlow sub.now back.rho back.mu) }
 {
-    let items = lower(alloc, sub.statements.as_slice())?;
-    let items = items.as_slice();
     let frame = frame_of(alloc, sub, items)?;
     backward(alloc, &frame, items)
 }
 
-/// The flow of a body, of which the backward part is there.
-fn flow_in(alloc: Global, sub: &Sub, back: BackwardFlow) -> Result<Flow, AllocError>
+/// A body whose variables are the subprogram's, as items, with what leads on to the variables after it.
+fn body_flow(alloc: Global, sub: &Sub) -> Result<BodyFlow, AllocError>
     requires once { IsDistinct (λ (v : VarId) (w : VarId). w.0 == v.0) sub.now.vars }
     requires covers { BodyCovered sub.now }
     requires size { length sub.now.vars ≤ most_variables }
+    ensures { IfOk result (IsBodyFlow sub.now) }
+{
+    let items = lower(alloc, sub.statements.as_slice())?;
+    let back = backward_in(alloc, sub, items.as_slice())?;
+    Ok(BodyFlow { items, back })
+}
+
+/// The flow of a body that is these items, of which the backward part is there.
+fn flow_in(alloc: Global, sub: &Sub, items: &[Item], back: BackwardFlow) -> Result<Flow, AllocError>
+    requires once { IsDistinct (λ (v : VarId) (w : VarId). w.0 == v.0) sub.now.vars }
+    requires covers { BodyCovered sub.now }
+    requires size { length sub.now.vars ≤ most_variables }
+    requires items { effect_in items.now ≡ effects sub.now.statements }
     requires back { IsBackwardFlow sub.now back.rho back.mu }
     ensures { IfOk result (IsFlow sub.now) }
 {
-    let items = lower(alloc, sub.statements.as_slice())?;
-    let items = items.as_slice();
     let frame = frame_of(alloc, sub, items)?;
     let lambda = forward(alloc, &frame, items)?;
     let defines = defined(alloc, items)?;
@@ -89,16 +106,12 @@ fn flow_in(alloc: Global, sub: &Sub, back: BackwardFlow) -> Result<Flow, AllocEr
     })
 }
 
-/// What leads on to the variables after the body of a subprogram.
-pub fn backward_flow_of(
-    alloc: Global,
-    program: &Program,
-    id: SubId,
-) -> Result<BackwardFlow, FlowFault>
+/// The body of a subprogram as items, and what leads on to the variables after it.
+pub fn backward_flow_of(alloc: Global, program: &Program, id: SubId) -> Result<BodyFlow, FlowFault>
     requires visible { Visible program.now }
     requires id { id.0 < length program.now.subs }
-    ensures flow { (sub : Sub) → slice_get program.now.subs id.0 ≡ Some sub → IfOk result (λ back. IsBackwardFlow sub back.rho back.mu) }
-    ensures narrow { (sub : Sub) → slice_get program.now.subs id.0 ≡ Some sub → IfOk result (λ back. is_wide sub ≡ false) }
+    ensures flow { (sub : Sub) → slice_get program.now.subs id.0 ≡ Some sub → IfOk result (IsBodyFlow sub) }
+    ensures narrow { (sub : Sub) → slice_get program.now.subs id.0 ≡ Some sub → IfOk result (λ body. is_wide sub ≡ false) }
     ensures refused { (sub : Sub) → slice_get program.now.subs id.0 ≡ Some sub → IfErr result (IsFaultOf sub) }
 {
     names_are_scoped();
@@ -107,8 +120,8 @@ pub fn backward_flow_of(
     if count > MOST_VARIABLES {
         return Err(FlowFault::TooManyVariables(count));
     }
-    let back = backward_in(alloc, sub)?;
-    Ok(back)
+    let body = body_flow(alloc, sub)?;
+    Ok(body)
 }
 
 /// The flow of the body of a subprogram.
@@ -120,11 +133,12 @@ pub fn flow_of(alloc: Global, program: &Program, id: SubId) -> Result<Flow, Flow
     ensures refused { (sub : Sub) → slice_get program.now.subs id.0 ≡ Some sub → IfErr result (IsFaultOf sub) }
 {
     names_are_scoped();
-    let back = match backward_flow_of(alloc, program, id) {
-        Ok(back) => back,
+    let body = match backward_flow_of(alloc, program, id) {
+        Ok(body) => body,
         Err(fault) => return Err(fault),
     };
+    let BodyFlow { items, back } = body;
     let sub = &program.subs.as_slice()[id.0];
-    let flow = flow_in(alloc, sub, back)?;
+    let flow = flow_in(alloc, sub, items.as_slice(), back)?;
     Ok(flow)
 }

@@ -28,12 +28,11 @@ returns c =
     let places = c.in_ok-ineffective.ineffective.keys in
     are_findings c.args.program.now c.args.sub.now c.args.rho.now c.args.mu.now c.requires.scoped c.requires.marks c.requires.flow tables c.in_ok-tables.ensures places
     (λ q. c.in_ok-ineffective.ensures.places q ∙ ap (λ list. list_any (stands_at q) list && not (list_any (is_effective tables.exported q) list)) c.as_slice.ensures)
-    (once_places places c.in_ok-ineffective.ensures.once) c.in_ok-unset.unset.items
-    (c.in_ok-unset.ensures c.args.sub.now c.requires.at)
+    (once_places places c.in_ok-ineffective.ensures.once) c.args.unset.now
+    c.requires.unset
     c.add_unset_reads.new.found.items
     (c.in_ok-add_unset_reads.ensures
-    ∙ ap (λ reads. c.add_ineffective.new.found.items ++ map unset_read reads) c.as_slice-2.ensures.value
-    ∙ ap (λ front. front ++ map unset_read c.in_ok-unset.unset.items)
+    ∙ ap (λ front. front ++ map unset_read c.args.unset.now)
     ((rw c.get.ensures at c.in_ok-add_ineffective.ensures)
     ∙ ap (λ front. front ++ map Ineffective places)
     (c.in_ok-add_differences.ensures ∙ ap (λ front. front ++ differences) c.new-found.ensures.items)))

@@ -2,12 +2,12 @@ use Rattle.std.proofs.Common.{◌≡◌, ◌∙◌, ap, arith, false, get_or, le
 use Rattle.std.proofs.lemmas.Bool.{le-ltb}
 use Rattle.spx_core.specs.FlowRules.{is_wide, most_variables}
 use Rattle.spx_core.specs.Scopes.{Scoped}
-use Rattle.spx_flow.specs.Flows.{IsBackwardFlow}
+use Rattle.spx_flow.specs.Flows.{IsBodyFlow}
 use Rattle.spx_flow.proofs.FlowLaws.{covers_body, the_sub}
 use Rattle.spx_flow.proofs.flow.backward_flow_of.Goals as goal
 
-pub backward_in-requires-clause-covers : goal.backward_in-requires-clause-covers
-backward_in-requires-clause-covers c =
+pub body_flow-requires-clause-covers : goal.body_flow-requires-clause-covers
+body_flow-requires-clause-covers c =
     let p = c.args.program.now in
     let sub = c.index-as_slice-id.result in
     let at : sub ≡ get_or p.subs c.args.id.0 sub = c.index-as_slice-id.is ∙ ap (λ subs. get_or subs c.args.id.0 sub) c.as_slice.ensures in
@@ -16,7 +16,7 @@ backward_in-requires-clause-covers c =
 pub returns-clause-flow : goal.returns-clause-flow
 returns-clause-flow c sub at =
     let same = the_sub c.args.program.now.subs c.as_slice.result.now c.args.id.0 c.index-as_slice-id.result sub c.as_slice.ensures c.index-as_slice-id.is at in
-    subst (λ s. IsBackwardFlow s c.in_ok-back.back.rho c.in_ok-back.back.mu) same c.in_ok-back.ensures
+    subst (λ s. IsBodyFlow s c.in_ok-body.body) same c.in_ok-body.ensures
 
 pub returns-clause-narrow : goal.returns-clause-narrow
 returns-clause-narrow c sub at =
