@@ -2,7 +2,7 @@
 ghost use Rattle.std.specs.Prelude.{◌≡◌};
 ghost use Rattle.spx_meaning.specs.Literals.{base_in, base_of, literal, value_of};
 
-use spx_core::{BaseType, Class, CoreExpr, ExprType, UNIVERSAL};
+use spx_core::{BaseType, Class, CoreExpr, ExprType, UNIVERSAL, variable_of};
 use spx_term::Value;
 use spx_types::judge;
 
@@ -28,13 +28,24 @@ fn base_in(of: ExprType) -> BaseType
     }
 }
 
-/// The value of a static expression that breaks no rule.
-pub fn literal(expr: &CoreExpr) -> Option<Value>
+/// The value of an expression that is judged to be static and to break no rule.
+fn judged_literal(expr: &CoreExpr) -> Option<Value>
     ensures { result ≡ literal expr.now }
 {
     match judge(expr) {
         Ok(typing) => typing.value.map(|value| value_of(typing.of, value)),
         Err(_) => None,
+    }
+}
+
+/// The value of a static expression that breaks no rule.
+pub fn literal(expr: &CoreExpr) -> Option<Value>
+    ensures { result ≡ literal expr.now }
+{
+    match expr {
+        // Most names denote variables, which have no value before a run.
+        CoreExpr::Name(name) if variable_of(name.entity).is_some() => None,
+        _ => judged_literal(expr),
     }
 }
 
