@@ -15,7 +15,7 @@ use Rattle.std.specs.Prelude.{Contains}
 use Rattle.std.proofs.lemmas.List.Elements.{All-contains_itself}
 use Rattle.spx_report.specs.declared.limit.LimitName.{LimitName}
 use Rattle.spx_report.specs.declared.report.Finding.{Finding}
-use Rattle.spx_report.specs.Findings.{first_limit}
+use Rattle.spx_findings.specs.Findings.{first_limit}
 use Rattle.spx_report.specs.FlowLines.{AreFlowLines, flow_line}
 use Rattle.spx_examiner.specs.declared.status.Status.TheVariants as status
 use Rattle.spx_examiner.specs.declared.judgement.Judgement.{Judgement}

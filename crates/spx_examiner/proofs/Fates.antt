@@ -16,9 +16,9 @@ use Rattle.spx_core.proofs.Callers.Bodies.{bodies_are}
 use Rattle.spx_paths.specs.Fit.{Clean}
 use Rattle.spx_report.specs.declared.limit.LimitName.{LimitName}
 use Rattle.spx_report.specs.declared.report.Finding.{Finding}
-use Rattle.spx_report.specs.Findings.{findings_of, first_limit}
-use Rattle.spx_report.specs.Listing.{conditions_text}
-use Rattle.spx_report.proofs.FindingLaws.{lines_of, none_left}
+use Rattle.spx_findings.specs.Findings.{findings_of, first_limit}
+use Rattle.spx_findings.specs.Listing.{conditions_text}
+use Rattle.spx_findings.proofs.FindingLaws.{lines_of, none_left}
 use Rattle.spx_run.specs.declared.inputs.InputLine.{InputLine}
 use Rattle.spx_run.specs.declared.result.RunResult.{RunResult}
 use Rattle.spx_run.specs.declared.result.RunResult.TheVariants as result

@@ -8,8 +8,8 @@ use Rattle.spx_core.specs.declared.program.Program.{Program}
 use Rattle.spx_paths.specs.Fit.{Fit}
 use Rattle.spx_meaning.specs.Laws.{NeverBad, TwoRuns}
 use Rattle.spx_report.specs.declared.report.Finding.{Finding}
-use Rattle.spx_report.specs.Findings.{findings_of}
-use Rattle.spx_report.specs.Listing.{conditions_text}
+use Rattle.spx_findings.specs.Findings.{findings_of}
+use Rattle.spx_findings.specs.Listing.{conditions_text}
 use Rattle.spx_report.specs.RuleTexts.{breach_finding}
 use Rattle.spx_run.specs.declared.inputs.InputLine.{InputLine}
 use Rattle.spx_words.specs.Requests as requests

@@ -22,8 +22,8 @@ use Rattle.spx_examiner.specs.Reading.{IsRead}
 use Rattle.spx_words.specs.Requests.{Request, check, conditions, run}
 use Rattle.spx_examiner.specs.Words.{HasNoForm, IsCheck, IsConditions, IsRun, asked, files_in}
 use Rattle.spx_examiner.specs.Judgement.{status_of, text_of}
-use Rattle.spx_report.specs.Findings.{findings_of, first_limit}
-use Rattle.spx_report.specs.Listing.{conditions_text}
+use Rattle.spx_findings.specs.Findings.{findings_of, first_limit}
+use Rattle.spx_findings.specs.Listing.{conditions_text}
 use Rattle.spx_report.specs.RuleTexts.{breach_finding}
 use Rattle.spx_report.specs.FlowLines.{AreFlowLines}
 use Rattle.spx_meaning.specs.declared.bad.Bad.{Bad}

@@ -7,9 +7,9 @@ ghost use Rattle.spx_core.specs.Erased.{Visible};
 ghost use Rattle.spx_core.specs.FlowRules.{has_many_variables};
 ghost use Rattle.spx_core.specs.Obeyed.{Obeys};
 ghost use Rattle.spx_core.specs.declared.rule.Breach.{Breach};
-ghost use Rattle.spx_report.specs.Findings.{findings_of, first_limit};
+ghost use Rattle.spx_findings.specs.Findings.{findings_of, first_limit};
 ghost use Rattle.spx_report.specs.FlowLines.{AreFlowLines};
-ghost use Rattle.spx_report.specs.Listing as listing;
+ghost use Rattle.spx_findings.specs.Listing as listing;
 ghost use Rattle.spx_report.specs.RuleTexts.{breach_finding};
 ghost use Rattle.spx_run.specs.Results.{result_of};
 ghost use Rattle.spx_words.specs.Words.{request_of};
@@ -23,9 +23,8 @@ use crate::judgement::Judgement;
 use crate::reading::{Reading, read};
 use crate::words::one_name;
 use spx_core::{Breach, Program};
-use spx_report::{
-    FindFault, Finding, LimitName, breach_finding, conditions_text, findings, flow_findings,
-};
+use spx_findings::{conditions_text, findings};
+use spx_report::{FindFault, Finding, LimitName, breach_finding, flow_findings};
 use spx_resolve::{ResolveFault, resolve};
 use spx_rules::obey;
 use spx_run::{InputFault, InputFinding, InputLine, Inputs, RunResult, read_inputs, run};

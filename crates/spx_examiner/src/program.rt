@@ -27,7 +27,7 @@ use spx_words::CommandWords;
 use std::alloc::{AllocError, Global};
 
 /// What ends the work before there is a text.
-#[derive(Clone, Copy, Debug, PartialEq, Eq, Drop)]
+#[derive(Clone, Copy, PartialEq, Eq, Drop)]
 enum Stop {
     ReadFault,
     NoMemory,

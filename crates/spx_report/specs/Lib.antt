@@ -1,8 +1,5 @@
 pub mod Report
 pub mod Limits
-pub mod Findings
-pub mod Listing
 pub mod FlowLines
 pub mod RuleTexts
 pub mod LineLists
-pub mod LeftClaims

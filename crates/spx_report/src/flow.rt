@@ -132,7 +132,7 @@ fn sub_findings(alloc: Global, program: &Program, id: SubId) -> Result<Vec<FlowF
     ensures refused { (sub : Sub) → slice_get program.now.subs id.0 ≡ Some sub → IfErr result (IsFaultWhere Variables (is_wide sub)) }
 {
     match backward_flow_of(alloc, program, id) {
-        Ok(back) => Ok(compare_backward(alloc, program, id, &back.rho, &back.mu)?),
+        Ok(body) => Ok(compare_backward(alloc, program, id, &body)?),
         Err(FlowFault::TooManyVariables(_)) => Err(FindFault::Limit(LimitName::Variables)),
         Err(FlowFault::Memory) => Err(FindFault::Memory),
     }

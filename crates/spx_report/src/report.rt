@@ -11,7 +11,7 @@ use sqlite_items::Items;
 use std::alloc::{AllocError, Global};
 
 /// A line of a report, about what stands at a place.
-#[derive(Debug, Drop)]
+#[derive(Drop)]
 pub struct Finding {
     pub place: Place,
     pub rule: RuleName,
@@ -20,7 +20,7 @@ pub struct Finding {
 
 /// How many conditions a subprogram has, how many of them the simplifier closed and how many a script, and how many
 /// are left.
-#[derive(Clone, Copy, Debug, PartialEq, Eq)]
+#[derive(Clone, Copy, PartialEq, Eq)]
 pub struct SubRow {
     pub sub: SubId,
     pub total: usize,
@@ -30,21 +30,21 @@ pub struct SubRow {
 }
 
 /// What a report says: the findings, in the order in which they are printed, and a row for each subprogram.
-#[derive(Debug, Drop)]
+#[derive(Drop)]
 pub struct Findings {
     pub lines: Items<Finding>,
     pub subs: Items<SubRow>,
 }
 
 /// Adds a text.
-pub(crate) fn put(out: &mut Vec<u8>, text: &[u8]) -> Result<(), AllocError>
+fn put(out: &mut Vec<u8>, text: &[u8]) -> Result<(), AllocError>
     ensures { OnOk result (out.new.items ≡ out.old.items ++ text.now) }
 {
     out.extend_from_slice(text)
 }
 
 /// Adds a number in decimal.
-pub(crate) fn put_number(alloc: Global, out: &mut Vec<u8>, number: u64) -> Result<(), AllocError>
+fn put_number(alloc: Global, out: &mut Vec<u8>, number: u64) -> Result<(), AllocError>
     ensures { OnOk result (out.new.items ≡ out.old.items ++ decimal number) }
 {
     put(out, decimal(alloc, i128::from(number))?.as_slice())
@@ -95,7 +95,7 @@ fn name_of(files: &[String], file: u32) -> &[u8]
 
 /// Adds `FILE:LINE:COLUMN`.
 #[tactic(auto, using(crate::proofs::Texts::texts), unfolding(crate::specs::Report::spot_text))]
-pub(crate) fn put_spot(
+fn put_spot(
     alloc: Global,
     out: &mut Vec<u8>,
     files: &[String],

@@ -1,5 +1,5 @@
 use Rattle.std.proofs.Common.{rules, [], Option, IfSome, IsNone, ap, sym, subst, ◌∙◌}
-use Rattle.spx_report.specs.Findings.{findings_of, first_limit}
+use Rattle.spx_findings.specs.Findings.{findings_of, first_limit}
 use Rattle.spx_report.specs.Limits.{IsFaultOf}
 use Rattle.spx_examiner.specs.declared.judgement.Judgement.{Judgement}
 use Rattle.spx_examiner.specs.declared.judgement.Judgement.TheVariants.{Examined}

@@ -1,8 +1,8 @@
 use Rattle.std.proofs.Common.{rules, [], ◌∷◌, Option, IfSome, IsNone, ap, sym, subst, ◌∙◌}
 use Rattle.spx_text.specs.Loads.{names}
-use Rattle.spx_report.specs.Findings.{first_limit}
+use Rattle.spx_findings.specs.Findings.{first_limit}
 use Rattle.spx_report.specs.Limits.{IsFaultOf}
-use Rattle.spx_report.specs.Listing.{conditions_text}
+use Rattle.spx_findings.specs.Listing.{conditions_text}
 use Rattle.spx_examiner.specs.declared.judgement.Judgement.{Judgement}
 use Rattle.spx_examiner.specs.declared.judgement.Judgement.TheVariants.{Limit, Listed}
 use Rattle.spx_examiner.specs.Outcome.{IsExamined, by_limit, narrow}

@@ -1,0 +1,4 @@
+pub mod FindingLaws
+pub mod FaultLaws
+pub mod ListingLaws
+pub mod LeftLaws
