@@ -12,11 +12,11 @@ use std::alloc::{AllocError, Global};
 use std::marker::Model;
 
 /// The place of a term among the terms, counted from 0. Equal terms have equal ids.
-#[derive(Clone, Copy, Debug, PartialEq, Eq, Hash)]
+#[derive(Clone, Copy, PartialEq, Eq, Hash)]
 pub struct TermId(pub usize);
 
 /// A term with an id for each part.
-#[derive(Clone, Copy, Debug, PartialEq, Eq, Hash)]
+#[derive(Clone, Copy, PartialEq, Eq, Hash)]
 pub enum Node {
     Number(i128),
     Truth(bool),
@@ -26,7 +26,7 @@ pub enum Node {
 }
 
 /// A node, and how many nodes its tree has, counted up to `MOST_NODES + 1`.
-#[derive(Clone, Copy, Debug, PartialEq, Eq, Hash)]
+#[derive(Clone, Copy, PartialEq, Eq, Hash)]
 struct Entry {
     node: Node,
     size: u32,

@@ -16,7 +16,7 @@ pub struct SubId(pub usize);
 pub struct TypeId(pub usize);
 
 /// The class of a type (Ada 95 RM 3.2): what its values are.
-#[derive(Clone, Copy, Debug, PartialEq, Eq)]
+#[derive(Clone, Copy, PartialEq, Eq)]
 pub enum Class {
     /// Numbers (RM 3.5.4).
     Integer,
@@ -27,7 +27,7 @@ pub enum Class {
 }
 
 /// A base type: the values of its class from `first` to `last`, which are numbers or positions (Ada 95 RM 3.5).
-#[derive(Clone, Copy, Debug, PartialEq, Eq)]
+#[derive(Clone, Copy, PartialEq, Eq)]
 pub struct BaseType {
     pub id: TypeId,
     pub class: Class,
@@ -36,7 +36,7 @@ pub struct BaseType {
 }
 
 /// A type or subtype: the values of a base type from `first` to `last`, which are numbers or positions (Ada 95 RM 3.5).
-#[derive(Clone, Copy, Debug, PartialEq, Eq)]
+#[derive(Clone, Copy, PartialEq, Eq)]
 pub struct Subtype {
     pub id: TypeId,
     pub base: BaseType,
@@ -112,7 +112,7 @@ pub const WIDEST_FIRST: i128 = -9223372036854775808;
 pub const WIDEST_LAST: i128 = 9223372036854775807;
 
 /// The mode of a formal parameter (Ada 95 RM 6.1).
-#[derive(Clone, Copy, Debug, PartialEq, Eq)]
+#[derive(Clone, Copy, PartialEq, Eq)]
 pub enum Mode {
     In,
     Out,
@@ -120,7 +120,7 @@ pub enum Mode {
 }
 
 /// What a variable is declared as.
-#[derive(Clone, Copy, Debug, PartialEq, Eq)]
+#[derive(Clone, Copy, PartialEq, Eq)]
 pub enum VarKind {
     /// A formal parameter of this mode.
     Formal(Mode),
@@ -133,14 +133,14 @@ pub enum VarKind {
 }
 
 /// What is declared of an object (Ada 95 RM 3.3).
-#[derive(Clone, Copy, Debug, PartialEq, Eq)]
+#[derive(Clone, Copy, PartialEq, Eq)]
 pub struct Object {
     pub kind: VarKind,
     pub subtype: Subtype,
 }
 
 /// What a name denotes: its identity, and the facts of its declaration that the static rules need.
-#[derive(Clone, Copy, Debug, PartialEq, Eq)]
+#[derive(Clone, Copy, PartialEq, Eq)]
 pub enum Entity {
     TypeName(Subtype),
     Variable(VarId, Object),
@@ -154,7 +154,7 @@ pub enum Entity {
 }
 
 /// What the names of one declaration denote.
-#[derive(Clone, Copy, Debug, PartialEq, Eq)]
+#[derive(Clone, Copy, PartialEq, Eq)]
 pub enum Meaning {
     /// Variables, one after another.
     Variables(Object),

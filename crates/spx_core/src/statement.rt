@@ -110,7 +110,7 @@ pub struct CoreChoice {
 }
 
 /// What a statement stands in, as far as exits go (Barnes).
-#[derive(Clone, Copy, Debug, PartialEq, Eq)]
+#[derive(Clone, Copy, PartialEq, Eq)]
 pub enum Around {
     /// Directly in a loop.
     Loop,

@@ -18,7 +18,7 @@ pub const PROGRAM: bool = false;
 pub const ANNOTATION: bool = true;
 
 /// Why reading stops, and how many tokens are left there.
-#[derive(Clone, Copy, Debug, PartialEq, Eq)]
+#[derive(Clone, Copy, PartialEq, Eq)]
 pub enum Stop {
     /// No text of the grammar goes on.
     Expected(usize),

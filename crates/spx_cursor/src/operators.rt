@@ -12,7 +12,7 @@ use spx_text::Place;
 use spx_tree::{InfixOp, Kind, Layer, PrefixOp};
 
 /// The operators with which a chain of operands goes on.
-#[derive(Clone, Copy, Debug, PartialEq, Eq)]
+#[derive(Clone, Copy, PartialEq, Eq)]
 pub enum Chain {
     Multiplying,
     Adding,
@@ -21,7 +21,7 @@ pub enum Chain {
 }
 
 /// What follows the first operand of a relation.
-#[derive(Clone, Copy, Debug, PartialEq, Eq)]
+#[derive(Clone, Copy, PartialEq, Eq)]
 pub enum Relator {
     Compare(InfixOp),
     In,

@@ -6,7 +6,7 @@ ghost use Rattle.spx_interp.specs.Results.{has_ended, past_loop};
 use spx_meaning::Bad;
 
 /// How the run of statements ends. The store is then in the state that the run has left it in.
-#[derive(Clone, Copy, Debug, PartialEq, Eq)]
+#[derive(Clone, Copy, PartialEq, Eq)]
 pub(crate) enum Step {
     /// At their end.
     Ended,

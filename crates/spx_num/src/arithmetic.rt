@@ -7,7 +7,7 @@ ghost use Rattle.spx_num.specs.Exact.{exact, quotient, remainder, modulus, power
 use thiserror::Error;
 
 /// An operation on two whole numbers.
-#[derive(Clone, Copy, Debug, PartialEq, Eq)]
+#[derive(Clone, Copy, PartialEq, Eq)]
 pub enum Op {
     Add,
     Sub,

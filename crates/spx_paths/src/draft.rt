@@ -18,7 +18,7 @@ use sqlite_items::Items;
 use std::alloc::{AllocError, Global};
 
 /// What a check asks to be shown.
-#[derive(Debug, Drop)]
+#[derive(Drop)]
 pub struct Check {
     pub kind: CondKind,
     pub place: Place,

@@ -14,7 +14,7 @@ use std::alloc::{AllocError, Global};
 use thiserror::Error;
 
 /// A value as it is written.
-#[derive(Debug, Drop)]
+#[derive(Drop)]
 pub enum InputValue {
     Number(i128),
     /// `True`, `False`, or another word as it is spelled.
@@ -22,7 +22,7 @@ pub enum InputValue {
 }
 
 /// A line of an inputs file.
-#[derive(Debug, Drop)]
+#[derive(Drop)]
 pub struct InputLine {
     /// Its number, from 1.
     pub line: u32,
@@ -32,7 +32,7 @@ pub struct InputLine {
 }
 
 /// What an inputs file says, line by line.
-#[derive(Debug, Drop)]
+#[derive(Drop)]
 pub struct Inputs {
     pub lines: Items<InputLine>,
 }

@@ -11,7 +11,7 @@ use sqlite_items::Items;
 use std::alloc::{AllocError, Global};
 
 /// What is wrong with inputs, or with the name of the subprogram.
-#[derive(Debug, Drop)]
+#[derive(Drop)]
 pub enum InputFinding {
     /// A line is not `NAME = VALUE`.
     BadLine(Place),
@@ -26,7 +26,7 @@ pub enum InputFinding {
 }
 
 /// An export after a run.
-#[derive(Debug, Drop)]
+#[derive(Drop)]
 pub struct Output {
     /// The name as it is declared.
     pub name: Text,
@@ -34,7 +34,7 @@ pub struct Output {
 }
 
 /// What a run comes to.
-#[derive(Debug, Drop)]
+#[derive(Drop)]
 pub enum RunResult {
     /// There is no run, for these reasons.
     Refused(Items<InputFinding>),

@@ -14,7 +14,7 @@ use sqlite_items::Items;
 use std::alloc::{AllocError, Global};
 
 /// A path from one cut to the next.
-#[derive(Debug, Drop)]
+#[derive(Drop)]
 pub struct Path {
     pub steps: Items<PathStep>,
 }

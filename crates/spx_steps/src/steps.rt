@@ -12,11 +12,11 @@ use sqlite_items::Items;
 use std::alloc::{AllocError, Global};
 
 /// The place of a step among the steps, counted from 0.
-#[derive(Clone, Copy, Debug, PartialEq, Eq)]
+#[derive(Clone, Copy, PartialEq, Eq)]
 pub struct StepId(pub usize);
 
 /// A step, and the one that follows it.
-#[derive(Debug, Drop)]
+#[derive(Drop)]
 pub enum Step {
     /// A path ends.
     Cut,

@@ -5,7 +5,7 @@ ghost use Rattle.spx_table.specs.declared.case.Kind.TheVariants.{Asked, Second, 
 use std::alloc::{AllocError, Global};
 
 /// What a header begins.
-#[derive(Clone, Copy, Debug, PartialEq, Eq)]
+#[derive(Clone, Copy, PartialEq, Eq)]
 pub enum Kind {
     /// A text that is checked.
     Text,

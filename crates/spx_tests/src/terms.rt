@@ -177,9 +177,7 @@ fn lists_facts_in_order(rt: HostRuntime) -> Result<(), Fail> {
     let mut lists = FactLists::new(alloc);
     let one = lists.more(lists.none(), first)?;
     let two = lists.more(one, second)?;
-    assert_eq!(rt;
-        lists.facts(alloc, two)?.as_slice(),
-        [first, second].as_slice()
-    );
+    let facts = lists.facts(alloc, two)?;
+    assert!(rt; facts.as_slice() == [first, second].as_slice());
     Ok(())
 }

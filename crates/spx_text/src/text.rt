@@ -18,7 +18,7 @@ const INLINE: usize = 24;
 const PIECE: usize = 32;
 
 /// A text that contracts see as the list of its bytes.
-#[derive(Debug, Drop)]
+#[derive(Drop)]
 pub struct Text {
     bytes: SmallVec<u8, INLINE>,
 }

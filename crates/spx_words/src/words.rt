@@ -11,7 +11,7 @@ use clap::error::ErrorKind;
 use std::alloc::{AllocError, Global};
 
 /// What the words ask for. The texts are borrowed from the words.
-#[derive(Debug, Drop)]
+#[derive(Drop)]
 pub enum CommandWords<'a> {
     /// `check FILE`
     Check {

@@ -12,7 +12,7 @@ const MOST: u128 = 1 << 127;
 const MOST_EXPONENT: u8 = 128;
 
 /// The digits of a number, with their base where it is written.
-#[derive(Clone, Copy, Debug, PartialEq, Eq)]
+#[derive(Clone, Copy, PartialEq, Eq)]
 struct Digits {
     /// How many bytes they have, with those of the base.
     len: usize,
@@ -21,14 +21,14 @@ struct Digits {
     value: Option<u128>,
 }
 
-#[derive(Clone, Copy, Debug, PartialEq, Eq)]
+#[derive(Clone, Copy, PartialEq, Eq)]
 struct Exponent {
     len: usize,
     /// Its value, or `MOST_EXPONENT` where that is less.
     value: u8,
 }
 
-#[derive(Clone, Copy, Debug, PartialEq, Eq)]
+#[derive(Clone, Copy, PartialEq, Eq)]
 pub(super) struct Number {
     pub len: usize,
     /// Its value, where it is not too wide.

@@ -8,7 +8,7 @@ use crate::lexer::words::{kind_of_word, word_rest_len};
 use spx_tree::Kind;
 
 /// What a piece of a text is.
-#[derive(Clone, Copy, Debug, PartialEq, Eq)]
+#[derive(Clone, Copy, PartialEq, Eq)]
 pub(super) enum What {
     LineEnd,
     Separator,
@@ -19,7 +19,7 @@ pub(super) enum What {
     Lexeme(Kind, i128),
 }
 
-#[derive(Clone, Copy, Debug, PartialEq, Eq)]
+#[derive(Clone, Copy, PartialEq, Eq)]
 pub(super) struct Piece {
     pub what: What,
     /// How many bytes it has.
@@ -27,7 +27,7 @@ pub(super) struct Piece {
 }
 
 /// Why nothing stands at a place.
-#[derive(Clone, Copy, Debug, PartialEq, Eq)]
+#[derive(Clone, Copy, PartialEq, Eq)]
 pub(super) enum Cause {
     BadByte,
     BadNumber,

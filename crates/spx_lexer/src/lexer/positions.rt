@@ -6,7 +6,7 @@ use crate::lexer::pieces::{Piece, What};
 use spx_text::Place;
 
 /// A place of a text, and whether annotation text stands there.
-#[derive(Clone, Copy, Debug, PartialEq, Eq)]
+#[derive(Clone, Copy, PartialEq, Eq)]
 pub(super) struct Position {
     /// Its bytes from the first one of the text.
     pub offset: usize,
