@@ -107,10 +107,10 @@ fn resolve_type(
 {
     let types = &mut tables.types;
     match definition {
-        TypeDef::Integer(range) => Ok(resolve_integer(alloc, region, types, outer, name, range)?),
+        TypeDef::Integer(range) => resolve_integer(alloc, region, types, outer, name, range),
         TypeDef::Enumeration(place, literals) => {
             let literals = literals.as_slice();
-            Ok(resolve_enumeration(alloc, region, types, outer, name, *place, literals)?)
+            resolve_enumeration(alloc, region, types, outer, name, *place, literals)
         }
     }
 }
@@ -131,18 +131,18 @@ fn resolve_decl(
         Decl::Variables(names, type_name, value) => {
             let vars = &mut tables.vars;
             let names = names.get().as_slice();
-            Ok(resolve_variables(alloc, region, vars, outer, names, type_name.get(), value)?)
+            resolve_variables(alloc, region, vars, outer, names, type_name.get(), value)
         }
         Decl::Constants(names, type_name, value) => {
             let names = names.get().as_slice();
-            Ok(resolve_constants(alloc, region, outer, names, type_name, value.get())?)
+            resolve_constants(alloc, region, outer, names, type_name, value.get())
         }
         Decl::FullType(name, definition) => {
-            Ok(resolve_type(alloc, region, tables, outer, name.get(), definition.get())?)
+            resolve_type(alloc, region, tables, outer, name.get(), definition.get())
         }
         Decl::Subtype(name, parent, range) => {
             let types = &mut tables.types;
-            Ok(resolve_subtype(alloc, region, types, outer, name.get(), parent.get(), range)?)
+            resolve_subtype(alloc, region, types, outer, name.get(), parent.get(), range)
         }
     }
 }

@@ -26,8 +26,9 @@ fn resolve_name(alloc: Global, name: &Identifier, scope: &Scope<'_>) -> Result<C
 fn attribute_way(alloc: Global, designator: &Identifier) -> Result<Items<Step>, AllocError>
     ensures { IfOk result (λ way. way ≡ step.Attribute designator.now ∷ []) }
 {
+    let designator = designator.copy(alloc)?;
     let mut way = Items::new(alloc);
-    way.push(Step::Attribute(designator.copy(alloc)?))?;
+    way.push(Step::Attribute(designator))?;
     Ok(way)
 }
 
@@ -46,8 +47,8 @@ pub fn resolve_reference(
             Ok(Reference { root, way })
         }
         Name::Attribute(prefix, designator) => {
-            let root = resolve_name(alloc, prefix, scope)?;
             let way = attribute_way(alloc, designator)?;
+            let root = resolve_name(alloc, prefix, scope)?;
             Ok(Reference { root, way })
         }
     }

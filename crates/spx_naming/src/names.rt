@@ -19,10 +19,9 @@ pub fn declare(
     ensures { IfOk result (λ d. (d ≡ defining region.old entity name.now) × (region.new ≡ declaring region.old d)) }
 {
     let again = region.get(&name.text).is_some() || outer.is_predefined(&name.text);
-    let name = name.copy(alloc)?;
     region.declare(name.text.copy(alloc)?, entity)?;
     Ok(Defining {
-        name,
+        name: name.copy(alloc)?,
         entity,
         again,
     })

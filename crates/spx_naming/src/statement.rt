@@ -215,7 +215,7 @@ fn resolve_stmt(
     match stmt {
         Stmt::Null(place) => Ok(CoreStmt::Null(*place)),
         Stmt::Assignment(target, value) => {
-            Ok(resolve_assignment(alloc, target.get(), value.get(), region, outer)?)
+            resolve_assignment(alloc, target.get(), value.get(), region, outer)
         }
         Stmt::If(arms, otherwise, closing) => {
             let arms = arms.get().as_slice();
@@ -243,11 +243,9 @@ fn resolve_stmt(
         }
         Stmt::Assertion(kind, place, condition) => {
             let condition = condition.get();
-            Ok(resolve_assertion(alloc, *kind, *place, condition, changed, region, outer)?)
+            resolve_assertion(alloc, *kind, *place, condition, changed, region, outer)
         }
-        Stmt::Exit(place, condition) => {
-            Ok(resolve_exit(alloc, *place, condition, region, outer)?)
-        }
+        Stmt::Exit(place, condition) => resolve_exit(alloc, *place, condition, region, outer),
     }
 }
 
@@ -270,7 +268,7 @@ fn resolve_exports(
     ensures { IfOk result (λ r. r ≡ map (resolved_reference (seen scope.now)) (exported_names exports.now)) }
 {
     match exports {
-        Exports::Names(names) => Ok(resolve_references(alloc, names.as_slice(), scope)?),
+        Exports::Names(names) => resolve_references(alloc, names.as_slice(), scope),
         Exports::Null(_) => Ok(Items::new(alloc)),
     }
 }

@@ -28,8 +28,7 @@ fn add_type(
     ensures { OnOk result (types.new ≡ types.old ++ (record { name = name.now; subtype = subtype }) ∷ []) }
 {
     let name = Text::new(alloc, name)?;
-    types.push(TypeRow { name, subtype })?;
-    Ok(())
+    types.push(TypeRow { name, subtype })
 }
 
 /// The table of the predefined types, each at the position that is its id.
@@ -97,6 +96,5 @@ pub fn add_row(alloc: Global, types: &mut Items<TypeRow>, name: &Defining) -> Re
     types.push(TypeRow {
         name: name.name.text.copy(alloc)?,
         subtype: subtype_of(Some(name.entity)),
-    })?;
-    Ok(())
+    })
 }

@@ -75,7 +75,7 @@ pub fn resolve_integer(
         slice::from_ref(name),
         range,
     )?;
-    Ok(declare_integer(alloc, region, types, outer, name, range)?)
+    declare_integer(alloc, region, types, outer, name, range)
 }
 
 /// A type of these literals, the name of which is declared before them.

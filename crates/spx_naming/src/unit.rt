@@ -1,7 +1,7 @@
 // Subprograms and programs.
 ghost use Rattle.std.specs.Prelude.{◌≡◌, ◌∷◌, ◌++◌, ◌+◌, ◌-◌, [], IfOk, length, map, option_map};
 ghost use Rattle.std.specs.List.{flat_map, range_with_len};
-ghost use Rattle.spx_core.specs.Resolved.{around_body, declared_by_decls, declared_by_params, declaring, declaring_all, own_types, own_vars, parameters_by_stmts, params_of, resolved, resolved_decls, resolved_derives, resolved_formal_part, resolved_predicate, resolved_stmts, resolved_sub, resolved_subs, rows_by_decls, sub_at, var_of, variables_by_decls};
+ghost use Rattle.spx_core.specs.Resolved.{around_body, declared_by_decls, declared_by_params, declaring, declaring_all, defining, own_types, own_vars, parameters_by_stmts, params_of, resolved, resolved_decls, resolved_derives, resolved_formal_part, resolved_predicate, resolved_stmts, resolved_sub, resolved_subs, rows_by_decls, sub_at, var_of, variables_by_decls};
 ghost use Rattle.spx_core.specs.Dependency.{items_of};
 ghost use Rattle.spx_scope.specs.Seen.{seen};
 ghost use Rattle.spx_naming.specs.Counting.{counts_of};
@@ -196,9 +196,9 @@ fn resolve_subprogram(
     alloc: Global,
     tables: &mut Tables,
     everywhere: &Standard,
-    name: Defining,
+    name: Boxed<Defining>,
     subprogram: &Subprogram,
-) -> Result<Sub, AllocError>
+) -> Result<Boxed<Sub>, AllocError>
     ensures { IfOk result (λ sub. (sub ≡ resolved_sub name (counts_of tables.old) subprogram.now) × (tables.new.vars ≡ tables.old.vars ++ own_vars sub) × (tables.new.types ≡ tables.old.types ++ own_types sub)) }
 {
     let first = tables.vars.len();
@@ -206,26 +206,29 @@ fn resolve_subprogram(
     let vars = &mut tables.vars;
     let formal_part = resolve_formal_part(alloc, &mut formals, vars, everywhere, subprogram)?;
     let formal_count = tables.vars.len() - first;
-    let inner = resolve_inner(alloc, formals, tables, everywhere, &name, subprogram)?;
-    let end_name = copy_end_name(alloc, &subprogram.end_name)?;
+    let inner = resolve_inner(alloc, formals, tables, everywhere, name.get(), subprogram)?;
     let vars = ids_between(alloc, first, tables.vars.len())?;
+    let end_name = copy_end_name(alloc, &subprogram.end_name)?;
     let inner = inner.into_inner();
     let body = inner.body.into_inner();
-    Ok(Sub {
-        place: subprogram.place,
-        name,
-        formal_part,
-        derives: inner.derives,
-        pre: inner.pre,
-        post: body.post,
-        declarations: body.declarations,
-        statements: body.statements.into_inner(),
-        end: subprogram.end,
-        end_name,
-        vars,
-        formal_count,
-        local_count: body.local_count,
-    })
+    Boxed::new(
+        alloc,
+        Sub {
+            place: subprogram.place,
+            name: name.into_inner(),
+            formal_part,
+            derives: inner.derives,
+            pre: inner.pre,
+            post: body.post,
+            declarations: body.declarations,
+            statements: body.statements.into_inner(),
+            end: subprogram.end,
+            end_name,
+            vars,
+            formal_count,
+            local_count: body.local_count,
+        },
+    )
 }
 
 /// The subprogram that a unit is.
@@ -234,6 +237,20 @@ fn subprogram_of(unit: &Unit) -> &Subprogram
 {
     let Unit::Subprogram(subprogram) = unit;
     subprogram.get()
+}
+
+/// Declares the name of a unit in the library.
+fn declare_unit(
+    alloc: Global,
+    library: &mut Region,
+    outermost: &Scope<'_>,
+    entity: Entity,
+    name: &Identifier,
+) -> Result<Boxed<Defining>, AllocError>
+    ensures { IfOk result (λ d. (d ≡ defining library.old entity name.now) × (library.new ≡ declaring library.old d)) }
+{
+    let defined = declare(alloc, library, outermost, entity, name)?;
+    Boxed::new(alloc, defined)
 }
 
 /// The subprograms of the units. Each name is declared in the library only so that a second one is found (`again`).
@@ -251,8 +268,9 @@ fn resolve_units(
     for unit in units {
         let subprogram = subprogram_of(unit);
         let entity = Entity::Subprogram(SubId(subs.len()));
-        let name = declare(alloc, &mut library, &outermost, entity, &subprogram.name)?;
-        subs.push(resolve_subprogram(alloc, tables, everywhere, name, subprogram)?)?;
+        let name = declare_unit(alloc, &mut library, &outermost, entity, &subprogram.name)?;
+        let sub = resolve_subprogram(alloc, tables, everywhere, name, subprogram)?;
+        subs.push(sub.into_inner())?;
     }
     Ok(subs)
 }
@@ -284,9 +302,8 @@ fn units_of(alloc: Global, bodies: &[SubId]) -> Result<Items<CoreUnit>, AllocErr
 pub fn make_program(alloc: Global, units: &[Unit]) -> Result<Program, AllocError>
     ensures { IfOk result (λ program. program ≡ resolved units.now) }
 {
-    let everywhere = Standard::new(alloc)?;
     let mut tables = Tables::new(alloc)?;
-    let subs = resolve_units(alloc, &mut tables, &everywhere, units)?;
+    let subs = resolve_units(alloc, &mut tables, &Standard::new(alloc)?, units)?;
     let bodies = sub_ids(alloc, subs.len())?;
     Ok(Program {
         units: units_of(alloc, bodies.as_slice())?,

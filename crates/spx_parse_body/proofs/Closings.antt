@@ -1,6 +1,6 @@
 -- What closes a statement, read at once.
 use Rattle.std.specs.Prelude.{⊤}
-use Rattle.std.proofs.Common.{◌≡◌, ℕ, List, [], ◌∷◌, Option, Ok, Err, refl, ap}
+use Rattle.std.proofs.Common.{◌≡◌, ℕ, List, [], ◌∷◌, Option, ap}
 use Rattle.std.proofs.Math.Path.{fun_ext}
 use Rattle.spx_text.specs.declared.place.Place.{Place}
 use Rattle.spx_tree.specs.declared.token.Kind.{Kind}
@@ -15,27 +15,12 @@ use Rattle.spx_tree.specs.declared.statement.Stmt.TheVariants.{If, Case, Loop}
 use Rattle.spx_tree.specs.Form.{Form}
 use Rattle.spx_tree.specs.Written.{program}
 use Rattle.spx_parse_body.specs.declared.statements.SchemeKind.{SchemeKind}
-use Rattle.spx_cursor.specs.Reading.{Outcome, Reader, and_then, ◌>>=◌, pure, deeper, expect, expect_place, if_seen}
+use Rattle.spx_cursor.specs.Reading.{Reader, ◌>>=◌, pure, deeper, expect, expect_place, if_seen}
 use Rattle.spx_parse_body.specs.Expressions.{expression_below}
+use Rattle.spx_parse_body.proofs.Levels.{three_is}
 use Rattle.spx_parse_body.specs.Statements.{closing, arm, elsif_arms, else_part, if_statement, alternatives, case_statement, scheme, loop_statement, stmts_below}
 
 module _ (word : Kind) (make : Closing → Stmt) where
-  at_semicolon : (end last : Place) (r : Outcome ⊤) → and_then r (λ u. pure (make (record { end = end; word = last }))) ≡ and_then (and_then r (λ u. pure (record { end = end; word = last }))) (λ c. pure (make c))
-  at_semicolon end last (Ok x) = refl
-  at_semicolon end last (Err e) = refl
-
-  at_word : (end : Place) (r : Outcome Place)
-      → and_then r (λ last. expect program k.Semicolon >>= λ u. pure (make (record { end = end; word = last })))
-      ≡ and_then (and_then r (λ last. expect program k.Semicolon >>= λ u. pure (record { end = end; word = last }))) (λ c. pure (make c))
-  at_word end (Ok x) = at_semicolon end x.0 (expect program k.Semicolon x.1)
-  at_word end (Err e) = refl
-
-  at_end : (r : Outcome Place)
-      → and_then r (λ end. expect_place program word >>= λ last. expect program k.Semicolon >>= λ u. pure (make (record { end = end; word = last })))
-      ≡ and_then (and_then r (λ end. expect_place program word >>= λ last. expect program k.Semicolon >>= λ u. pure (record { end = end; word = last }))) (λ c. pure (make c))
-  at_end (Ok x) = at_word x.0 (expect_place program word x.1)
-  at_end (Err e) = refl
-
   -- what closes a statement, word by word
   abbrev words : Reader Stmt
   words = expect_place program k.End >>= λ end. expect_place program word >>= λ last. expect program k.Semicolon >>= λ u. pure (make (record { end = end; word = last }))
@@ -46,7 +31,7 @@ module _ (word : Kind) (make : Closing → Stmt) where
 
   closed_is : words ≡ closed
   unfolding closing
-  closed_is = fun_ext (λ fs. at_end (expect_place program k.End fs))
+  closed_is = fun_ext (λ fs. three_is (λ (end last : Place) (u : ⊤). record { end = end; word = last }) make (expect_place program word) (expect program k.Semicolon) (expect_place program k.End fs))
 
 module _ (levels : ℕ) (fs : List Form) where
   abbrev if_ending : (List Arm → Option (List Stmt) → Reader Stmt) → Reader Stmt

@@ -1,13 +1,18 @@
 // From tokens to names and expressions (Ada 95 RM 4.1 and 4.4).
-ghost use Rattle.std.specs.Prelude.{◌≡◌, ◌<◌, ◌≤◌, ◌+◌, ◌-◌, ◌^◌, IfOk};
-ghost use Rattle.spx_tree.specs.Form.{keeps, ItsPlace};
+ghost use Rattle.std.specs.Prelude.{◌≡◌, ◌<◌, ◌≤◌, ◌+◌, ◌-◌, ◌^◌, IfOk, List};
+ghost use Rattle.spx_tree.specs.Form.{Form, keeps, ItsPlace};
+ghost use Rattle.spx_tree.specs.Written.{program};
+ghost use Rattle.spx_tree.specs.declared.token.Kind.TheVariants as k;
+ghost use Rattle.spx_parse_body.specs.declared.expressions.Tall.{Tall as Height};
 ghost use Rattle.spx_parse_body.specs.Expressions as read;
+ghost use Rattle.spx_cursor.specs.Reading as reading;
+ghost use Rattle.spx_cursor.specs.Reading.{◌>>=◌ as ◌▷◌};
 ghost use Rattle.spx_cursor.specs.Answers.{Reads};
 
 use spx_cursor::{
-    ANNOTATION, Chain, Cursor, Relator, Stop, abs_or_not, connective_of, last_layer, logical,
-    operand_layer, operator_place, place_before, power_of, relator_of, right_layer, second_word,
-    sign_of, whole_operator,
+    ANNOTATION, Chain, Cursor, PROGRAM, Relator, Stop, abs_or_not, connective_of, last_layer,
+    logical, operand_layer, operator_place, place_before, power_of, relator_of, right_layer,
+    second_word, sign_of, whole_operator,
 };
 use spx_text::Place;
 use spx_tree::{
@@ -24,15 +29,16 @@ pub struct Tall {
     pub height: u32,
 }
 
-/// An expression without parts.
-fn leaf(alloc: Global, expr: Expr) -> Result<Tall, AllocError>
-    ensures { IfOk result (λ t. t ≡ read.leaf expr) }
+/// An expression of this height.
+fn node(alloc: Global, expr: Expr, height: u32) -> Result<Tall, Stop>
+    ensures gives { (fs : List Form) → Reads (reading.pure {A = Height} (record { expr = expr; height = height }) fs) result fs }
+    ensures low { IfOk result (λ t. t.height ≡ height) }
 {
     let expr = Boxed::new(alloc, expr)?;
-    Ok(Tall { expr, height: 0 })
+    Ok(Tall { expr, height })
 }
 
-/// What reads an expression of a layer, one level down.
+/// What reads an expression of a layer.
 #[cycle(layers)]
 #[tactic(auto, unfolding(crate::specs::Expressions::at_layer))]
 pub fn at_layer(
@@ -56,6 +62,36 @@ pub fn at_layer(
     }
 }
 
+/// Reads an expression of a layer, one level down.
+#[cycle(layers)]
+#[tactic(auto, using(crate::proofs::Levels::below_is))]
+fn below(
+    alloc: Global,
+    cursor: &mut Cursor<'_>,
+    levels: u32,
+    marked: bool,
+    layer: Layer,
+) -> Result<Tall, Stop>
+    requires { 0 < levels }
+    ensures gives { Reads (read.below marked levels layer cursor.old) result cursor.new }
+    ensures low { IfOk result (λ t. t.height < levels) }
+{
+    at_layer(alloc, cursor, levels - 1, marked, layer)
+}
+
+/// Reads an expression of program text, one level down.
+pub fn expr_below(
+    alloc: Global,
+    cursor: &mut Cursor<'_>,
+    levels: u32,
+    layer: Layer,
+) -> Result<Boxed<Expr>, Stop>
+    requires { 0 < levels }
+    ensures { Reads ((read.below program levels layer ▷ λ t. reading.pure t.expr) cursor.old) result cursor.new }
+{
+    Ok(below(alloc, cursor, levels, PROGRAM, layer)?.expr)
+}
+
 // literal = number
 #[tactic(auto, unfolding(crate::specs::Expressions::literal))]
 fn literal(alloc: Global, cursor: &mut Cursor<'_>, marked: bool) -> Result<Tall, Stop>
@@ -63,7 +99,7 @@ fn literal(alloc: Global, cursor: &mut Cursor<'_>, marked: bool) -> Result<Tall,
     ensures low { IfOk result (λ t. t.height ≡ 0) }
 {
     let (value, place) = cursor.number(marked)?;
-    Ok(leaf(alloc, Expr::Number(value, place))?)
+    node(alloc, Expr::Number(value, place), 0)
 }
 
 /// Reads a name: an identifier, or an attribute.
@@ -82,19 +118,30 @@ pub fn name(alloc: Global, cursor: &mut Cursor<'_>, marked: bool) -> Result<Name
     }
 }
 
-/// An expression in parentheses.
-fn enclose(alloc: Global, place: Place, inner: Tall) -> Result<Tall, AllocError>
-    requires { inner.height < 2 ^ 32 - 1 }
-    ensures { IfOk result (λ t. t ≡ read.enclosed place inner) }
+// "(", an expression of this layer, ")"; answers the place of "("
+#[cycle(layers)]
+fn between_parentheses(
+    alloc: Global,
+    cursor: &mut Cursor<'_>,
+    levels: u32,
+    marked: bool,
+    layer: Layer,
+) -> Result<(Place, Tall), Stop>
+    ensures gives { Reads (reading.deeper levels 0 (reading.expect_place marked k.LeftParenthesis ▷ λ place. read.below marked levels layer ▷ λ inner. reading.expect marked k.RightParenthesis ▷ λ u. reading.pure (place, inner)) cursor.old) result cursor.new }
+    ensures low { IfOk result (λ r. r.1.height < levels) }
 {
-    let height = inner.height + 1;
-    let expr = Boxed::new(alloc, Expr::Parenthesized(place, inner.expr))?;
-    Ok(Tall { expr, height })
+    if levels == 0 {
+        return Err(cursor.too_deep());
+    }
+    let place = cursor.expect_place(marked, Kind::LeftParenthesis)?;
+    let inner = below(alloc, cursor, levels, marked, layer)?;
+    cursor.expect(marked, Kind::RightParenthesis)?;
+    Ok((place, inner))
 }
 
 // in_parentheses = "(" predicate ")"
 #[cycle(layers)]
-#[tactic(auto, using(crate::proofs::Levels::below_is), unfolding(crate::specs::Expressions::in_parentheses))]
+#[tactic(auto, using(crate::proofs::Levels::in_parentheses_is))]
 fn in_parentheses(
     alloc: Global,
     cursor: &mut Cursor<'_>,
@@ -104,28 +151,17 @@ fn in_parentheses(
     ensures gives { Reads (read.in_parentheses marked (read.below marked levels) levels cursor.old) result cursor.new }
     ensures low { IfOk result (λ t. t.height ≤ levels) }
 {
-    if levels == 0 {
-        return Err(cursor.too_deep());
-    }
-    let place = cursor.expect_place(marked, Kind::LeftParenthesis)?;
-    let inner = at_layer(alloc, cursor, levels - 1, marked, Layer::Predicate)?;
-    cursor.expect(marked, Kind::RightParenthesis)?;
-    Ok(enclose(alloc, place, inner)?)
-}
-
-/// A function and its operand.
-fn apply(alloc: Global, function: Function, place: Place, operand: Tall) -> Result<Tall, AllocError>
-    requires { operand.height < 2 ^ 32 - 1 }
-    ensures { IfOk result (λ t. t ≡ read.applied function place operand) }
-{
-    let height = operand.height + 1;
-    let expr = Boxed::new(alloc, Expr::Applied(function, place, operand.expr))?;
-    Ok(Tall { expr, height })
+    let (place, inner) = between_parentheses(alloc, cursor, levels, marked, Layer::Predicate)?;
+    node(
+        alloc,
+        Expr::Parenthesized(place, inner.expr),
+        inner.height + 1,
+    )
 }
 
 // application = "(" expression ")", after a function
 #[cycle(layers)]
-#[tactic(auto, using(crate::proofs::Levels::below_is), unfolding(crate::specs::Expressions::application))]
+#[tactic(auto, using(crate::proofs::Levels::application_is))]
 fn application(
     alloc: Global,
     cursor: &mut Cursor<'_>,
@@ -136,13 +172,12 @@ fn application(
     ensures gives { Reads (read.application marked (read.below marked levels) levels function cursor.old) result cursor.new }
     ensures low { IfOk result (λ t. t.height ≤ levels) }
 {
-    if levels == 0 {
-        return Err(cursor.too_deep());
-    }
-    let place = cursor.expect_place(marked, Kind::LeftParenthesis)?;
-    let operand = at_layer(alloc, cursor, levels - 1, marked, Layer::Expression)?;
-    cursor.expect(marked, Kind::RightParenthesis)?;
-    Ok(apply(alloc, function, place, operand)?)
+    let (place, operand) = between_parentheses(alloc, cursor, levels, marked, Layer::Expression)?;
+    node(
+        alloc,
+        Expr::Applied(function, place, operand.expr),
+        operand.height + 1,
+    )
 }
 
 // attribute = identifier [application], after identifier "'"
@@ -165,7 +200,7 @@ fn attribute(
             let function = Function { name: prefix, form };
             application(alloc, cursor, levels, marked, function)
         }
-        _ => Ok(leaf(alloc, Expr::Name(Name::Attribute(prefix, designator)))?),
+        _ => node(alloc, Expr::Name(Name::Attribute(prefix, designator)), 0),
     }
 }
 
@@ -205,7 +240,7 @@ fn entry(
     ensures low { IfOk result (λ t. t.height ≡ 0) }
 {
     cursor.expect(marked, Kind::Tilde)?;
-    Ok(leaf(alloc, Expr::Entry(identifier))?)
+    node(alloc, Expr::Entry(identifier), 0)
 }
 
 // with_identifier = identifier [with_apostrophe | application | entry]
@@ -229,7 +264,7 @@ fn with_identifier(
             application(alloc, cursor, levels, marked, function)
         }
         Some(Kind::Tilde) => entry(alloc, cursor, marked, prefix),
-        _ => Ok(leaf(alloc, Expr::Name(Name::Simple(prefix)))?),
+        _ => node(alloc, Expr::Name(Name::Simple(prefix)), 0),
     }
 }
 
@@ -248,19 +283,9 @@ fn primary(alloc: Global, cursor: &mut Cursor<'_>, levels: u32, marked: bool) ->
     }
 }
 
-/// An operand after an operator.
-fn prefix(alloc: Global, op: PrefixOp, place: Place, operand: Tall) -> Result<Tall, AllocError>
-    requires { operand.height < 2 ^ 32 - 1 }
-    ensures { IfOk result (λ t. t ≡ read.prefixed op place operand) }
-{
-    let height = operand.height + 1;
-    let expr = Boxed::new(alloc, Expr::Prefix(op, place, operand.expr))?;
-    Ok(Tall { expr, height })
-}
-
 // an operator and its operand
 #[cycle(layers)]
-#[tactic(auto, using(crate::proofs::Levels::below_is), unfolding(crate::specs::Expressions::operated))]
+#[tactic(auto, unfolding(crate::specs::Expressions::operated))]
 fn operated(
     alloc: Global,
     cursor: &mut Cursor<'_>,
@@ -275,8 +300,12 @@ fn operated(
         return Err(cursor.too_deep());
     }
     let place = place_before(cursor, marked, op)?;
-    let operand = at_layer(alloc, cursor, levels - 1, marked, operand_layer(op))?;
-    Ok(prefix(alloc, op, place, operand)?)
+    let operand = below(alloc, cursor, levels, marked, operand_layer(op))?;
+    node(
+        alloc,
+        Expr::Prefix(op, place, operand.expr),
+        operand.height + 1,
+    )
 }
 
 /// Two operands under an operator.
@@ -298,7 +327,7 @@ fn join(
 
 // an operator and its right operand
 #[cycle(layers)]
-#[tactic(auto, using(crate::proofs::Levels::below_is), unfolding(crate::specs::Expressions::joined_by))]
+#[tactic(auto, unfolding(crate::specs::Expressions::joined_by))]
 fn infix(
     alloc: Global,
     cursor: &mut Cursor<'_>,
@@ -316,7 +345,7 @@ fn infix(
     }
     let place = operator_place(cursor, marked, op)?;
     second_word(cursor, marked, op)?;
-    let right = at_layer(alloc, cursor, levels - 1, marked, right_layer(op))?;
+    let right = below(alloc, cursor, levels, marked, right_layer(op))?;
     Ok(join(alloc, op, place, left, right)?)
 }
 
@@ -421,29 +450,6 @@ fn plain_name(expr: Expr) -> Option<Name>
     }
 }
 
-/// The name that an operand is.
-fn name_of(operand: Tall) -> Option<Name>
-    ensures { result ≡ read.plain_name operand.expr }
-{
-    plain_name(operand.expr.into_inner())
-}
-
-/// A membership test in a type.
-fn test_type(
-    alloc: Global,
-    op: MemberOp,
-    place: Place,
-    tested: Tall,
-    type_name: Name,
-) -> Result<Tall, AllocError>
-    requires { tested.height < 2 ^ 32 - 1 }
-    ensures { IfOk result (λ t. t ≡ read.in_type op place tested type_name) }
-{
-    let height = tested.height + 1;
-    let expr = Boxed::new(alloc, Expr::InType(op, place, tested.expr, type_name))?;
-    Ok(Tall { expr, height })
-}
-
 /// A membership test in the type of this name, where there is one.
 fn member_type(
     alloc: Global,
@@ -458,34 +464,20 @@ fn member_type(
     ensures low { IfOk result (λ t. t.height ≡ tested.height + 1) }
 {
     match type_name {
-        Some(type_name) => Ok(test_type(alloc, op, place, tested, type_name)?),
+        Some(type_name) => {
+            node(
+                alloc,
+                Expr::InType(op, place, tested.expr, type_name),
+                tested.height + 1,
+            )
+        }
         None => Err(cursor.expected()),
     }
 }
 
-/// A membership test in a range.
-fn test_range(
-    alloc: Global,
-    op: MemberOp,
-    place: Place,
-    tested: Tall,
-    low: Tall,
-    high: Tall,
-) -> Result<Tall, AllocError>
-    requires tested_low { tested.height < 2 ^ 32 - 1 }
-    requires low_low { low.height < 2 ^ 32 - 1 }
-    requires high_low { high.height < 2 ^ 32 - 1 }
-    ensures { IfOk result (λ t. t ≡ read.in_range op place tested low high) }
-{
-    let height = tested.height.max(low.height.max(high.height)) + 1;
-    let test = Expr::InRange(op, place, tested.expr, low.expr, high.expr);
-    let expr = Boxed::new(alloc, test)?;
-    Ok(Tall { expr, height })
-}
-
 // member = name | sum ".." sum
 #[cycle(layers)]
-#[tactic(auto, using(crate::proofs::Levels::below_is), unfolding(crate::specs::Expressions::member))]
+#[tactic(auto, unfolding(crate::specs::Expressions::member))]
 fn member(
     alloc: Global,
     cursor: &mut Cursor<'_>,
@@ -499,14 +491,22 @@ fn member(
     ensures gives { Reads (read.member marked (read.below marked levels) levels op place tested cursor.old) result cursor.new }
     ensures low { IfOk result (λ t. t.height ≤ levels) }
 {
-    let low = at_layer(alloc, cursor, levels - 1, marked, Layer::Sum)?;
+    let low = below(alloc, cursor, levels, marked, Layer::Sum)?;
     match cursor.peek(marked) {
         Some(Kind::DoubleDot) => {
             cursor.expect(marked, Kind::DoubleDot)?;
-            let high = at_layer(alloc, cursor, levels - 1, marked, Layer::Sum)?;
-            Ok(test_range(alloc, op, place, tested, low, high)?)
+            let high = below(alloc, cursor, levels, marked, Layer::Sum)?;
+            let height = tested.height.max(low.height.max(high.height)) + 1;
+            node(
+                alloc,
+                Expr::InRange(op, place, tested.expr, low.expr, high.expr),
+                height,
+            )
         }
-        _ => member_type(alloc, cursor, op, place, tested, name_of(low)),
+        _ => {
+            let type_name = plain_name(low.expr.into_inner());
+            member_type(alloc, cursor, op, place, tested, type_name)
+        },
     }
 }
 
@@ -570,7 +570,7 @@ fn relation(alloc: Global, cursor: &mut Cursor<'_>, levels: u32, marked: bool) -
 
 // logical operator or short-circuit form, and a relation; answers the operator
 #[cycle(layers)]
-#[tactic(auto, using(crate::proofs::Levels::below_is), unfolding(crate::specs::Expressions::combined))]
+#[tactic(auto, unfolding(crate::specs::Expressions::combined))]
 fn combined(
     alloc: Global,
     cursor: &mut Cursor<'_>,
@@ -587,7 +587,7 @@ fn combined(
     }
     let place = operator_place(cursor, marked, op)?;
     let whole = whole_operator(cursor, marked, op)?;
-    let right = at_layer(alloc, cursor, levels - 1, marked, Layer::Relation)?;
+    let right = below(alloc, cursor, levels, marked, Layer::Relation)?;
     let first = join(alloc, whole, place, left, right)?;
     Ok((first, Some(whole)))
 }

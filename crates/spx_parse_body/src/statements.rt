@@ -8,7 +8,7 @@ ghost use Rattle.spx_cursor.specs.Reading as reading;
 ghost use Rattle.spx_parse_body.specs.Statements as read;
 ghost use Rattle.spx_cursor.specs.Answers.{Reads};
 
-use crate::expressions::{at_layer, name, predicate_after};
+use crate::expressions::{at_layer, expr_below, name, predicate_after};
 use spx_cursor::{ANNOTATION, Cursor, PROGRAM, Stop};
 use spx_text::Place;
 use spx_tree::{
@@ -18,7 +18,7 @@ use sqlite_items::{Boxed, Items};
 use std::alloc::Global;
 
 /// The statements, by what they start with.
-#[derive(Clone, Copy, Debug, PartialEq, Eq)]
+#[derive(Clone, Copy)]
 pub enum StmtKind {
     Null,
     Assignment,
@@ -31,7 +31,7 @@ pub enum StmtKind {
 }
 
 /// The schemes of loops, by the first word of the loop.
-#[derive(Clone, Copy, Debug, PartialEq, Eq)]
+#[derive(Clone, Copy)]
 pub enum SchemeKind {
     While,
     For,
@@ -61,16 +61,30 @@ fn assignment(alloc: Global, cursor: &mut Cursor<'_>, levels: u32) -> Result<Stm
     Ok(Stmt::Assignment(target, value))
 }
 
+// stmts, one level down
+#[cycle(stmts)]
+#[tactic(auto, using(crate::proofs::Levels::stmts_below_is))]
+fn stmts_below(
+    alloc: Global,
+    cursor: &mut Cursor<'_>,
+    levels: u32,
+) -> Result<Boxed<Items<Stmt>>, Stop>
+    requires { 0 < levels }
+    ensures { Reads (read.stmts_below levels cursor.old) result cursor.new }
+{
+    Ok(Boxed::new(alloc, stmts(alloc, cursor, levels - 1)?)?)
+}
+
 // arm = expression "then" stmts
 #[cycle(stmts)]
-#[tactic(auto, using(crate::proofs::Levels::below_is, crate::proofs::Levels::stmts_below_is), unfolding(crate::specs::Statements::arm, crate::specs::Expressions::expression_below))]
+#[tactic(auto, unfolding(crate::specs::Statements::arm, crate::specs::Expressions::expression_below))]
 fn arm(alloc: Global, cursor: &mut Cursor<'_>, levels: u32, place: Place) -> Result<Arm, Stop>
     requires { 0 < levels }
     ensures { Reads (read.arm (read.stmts_below levels) levels place cursor.old) result cursor.new }
 {
-    let condition = at_layer(alloc, cursor, levels - 1, PROGRAM, Layer::Expression)?.expr;
+    let condition = expr_below(alloc, cursor, levels, Layer::Expression)?;
     cursor.expect(PROGRAM, Kind::Then)?;
-    let body = Boxed::new(alloc, stmts(alloc, cursor, levels - 1)?)?;
+    let body = stmts_below(alloc, cursor, levels)?;
     Ok(Arm {
         place,
         condition,
@@ -111,7 +125,7 @@ fn elsif_arms(
 
 // else_part = "else" stmts
 #[cycle(stmts)]
-#[tactic(auto, using(crate::proofs::Levels::stmts_below_is), unfolding(crate::specs::Statements::else_part))]
+#[tactic(auto, unfolding(crate::specs::Statements::else_part))]
 fn else_part(
     alloc: Global,
     cursor: &mut Cursor<'_>,
@@ -121,7 +135,7 @@ fn else_part(
     ensures { Reads (read.else_part (read.stmts_below levels) levels cursor.old) result cursor.new }
 {
     cursor.expect(PROGRAM, Kind::Else)?;
-    Ok(Boxed::new(alloc, stmts(alloc, cursor, levels - 1)?)?)
+    stmts_below(alloc, cursor, levels)
 }
 
 // [else_part]
@@ -179,13 +193,13 @@ fn if_statement(alloc: Global, cursor: &mut Cursor<'_>, levels: u32) -> Result<S
 }
 
 // upper = ".." sum
-#[tactic(auto, using(crate::proofs::Levels::below_is), unfolding(crate::specs::Statements::upper, crate::specs::Expressions::simple_expression_below))]
+#[tactic(auto, unfolding(crate::specs::Statements::upper, crate::specs::Expressions::simple_expression_below))]
 fn upper(alloc: Global, cursor: &mut Cursor<'_>, levels: u32) -> Result<Boxed<Expr>, Stop>
     requires { 0 < levels }
     ensures { Reads (read.upper levels cursor.old) result cursor.new }
 {
     cursor.expect(PROGRAM, Kind::DoubleDot)?;
-    Ok(at_layer(alloc, cursor, levels - 1, PROGRAM, Layer::Sum)?.expr)
+    expr_below(alloc, cursor, levels, Layer::Sum)
 }
 
 // [upper]
@@ -205,12 +219,12 @@ fn optional_upper(
 }
 
 // choice = sum [upper]
-#[tactic(auto, using(crate::proofs::Levels::below_is), unfolding(crate::specs::Statements::choice, crate::specs::Expressions::simple_expression_below))]
+#[tactic(auto, unfolding(crate::specs::Statements::choice, crate::specs::Expressions::simple_expression_below))]
 fn choice(alloc: Global, cursor: &mut Cursor<'_>, levels: u32) -> Result<Choice, Stop>
     requires { 0 < levels }
     ensures { Reads (read.choice levels cursor.old) result cursor.new }
 {
-    let low = at_layer(alloc, cursor, levels - 1, PROGRAM, Layer::Sum)?.expr;
+    let low = expr_below(alloc, cursor, levels, Layer::Sum)?;
     let high = optional_upper(alloc, cursor, levels)?;
     Ok(Choice { low, high })
 }
@@ -286,7 +300,7 @@ fn alternatives(
 
 // case_statement = "case" expression "is" alternatives closing
 #[cycle(stmts)]
-#[tactic(auto, using(crate::proofs::Levels::below_is, crate::proofs::Closings::case_statement_is), unfolding(crate::specs::Expressions::expression_below))]
+#[tactic(auto, using(crate::proofs::Closings::case_statement_is), unfolding(crate::specs::Expressions::expression_below))]
 fn case_statement(alloc: Global, cursor: &mut Cursor<'_>, levels: u32) -> Result<Stmt, Stop>
     ensures { Reads (read.case_statement (read.stmts_below levels) levels cursor.old) result cursor.new }
 {
@@ -294,7 +308,7 @@ fn case_statement(alloc: Global, cursor: &mut Cursor<'_>, levels: u32) -> Result
         return Err(cursor.too_deep());
     }
     let place = place_of_word(alloc, cursor, Kind::Case)?;
-    let selector = at_layer(alloc, cursor, levels - 1, PROGRAM, Layer::Expression)?.expr;
+    let selector = expr_below(alloc, cursor, levels, Layer::Expression)?;
     cursor.expect(PROGRAM, Kind::Is)?;
     let alternatives = alternatives(alloc, cursor, levels)?;
     let closing = closing(alloc, cursor, Kind::Case)?;
@@ -302,13 +316,13 @@ fn case_statement(alloc: Global, cursor: &mut Cursor<'_>, levels: u32) -> Result
 }
 
 // while_scheme = "while" expression
-#[tactic(auto, using(crate::proofs::Levels::below_is), unfolding(crate::specs::Statements::while_scheme, crate::specs::Expressions::expression_below))]
+#[tactic(auto, unfolding(crate::specs::Statements::while_scheme, crate::specs::Expressions::expression_below))]
 fn while_scheme(alloc: Global, cursor: &mut Cursor<'_>, levels: u32) -> Result<Scheme, Stop>
     requires { 0 < levels }
     ensures { Reads (read.while_scheme levels cursor.old) result cursor.new }
 {
     let place = cursor.expect_place(PROGRAM, Kind::While)?;
-    let condition = at_layer(alloc, cursor, levels - 1, PROGRAM, Layer::Expression)?.expr;
+    let condition = expr_below(alloc, cursor, levels, Layer::Expression)?;
     Ok(Scheme::While(place, condition))
 }
 
@@ -368,17 +382,17 @@ fn for_scheme(alloc: Global, cursor: &mut Cursor<'_>, levels: u32) -> Result<Sch
     ensures { Reads (read.for_scheme levels cursor.old) result cursor.new }
 {
     let place = cursor.expect_place(PROGRAM, Kind::For)?;
-    let subject = cursor.identifier(alloc, PROGRAM)?;
+    let subject = Boxed::new(alloc, cursor.identifier(alloc, PROGRAM)?)?;
     let word = cursor.expect_place(PROGRAM, Kind::In)?;
     let is_reverse = direction(cursor)?;
-    let type_name = name(alloc, cursor, PROGRAM)?;
+    let type_name = Boxed::new(alloc, name(alloc, cursor, PROGRAM)?)?;
     let bounds = optional_bounds(alloc, cursor, levels)?;
     let count = Count {
         place,
-        name: subject,
+        name: subject.into_inner(),
         word,
         is_reverse,
-        type_name,
+        type_name: type_name.into_inner(),
         bounds,
     };
     Ok(Scheme::For(Boxed::new(alloc, count)?))
@@ -403,7 +417,7 @@ fn scheme(
 
 // loop_statement = scheme "loop" stmts closing
 #[cycle(stmts)]
-#[tactic(auto, using(crate::proofs::Levels::stmts_below_is, crate::proofs::Closings::loop_statement_is))]
+#[tactic(auto, using(crate::proofs::Closings::loop_statement_is))]
 fn loop_statement(
     alloc: Global,
     cursor: &mut Cursor<'_>,
@@ -417,9 +431,9 @@ fn loop_statement(
     }
     let scheme = Boxed::new(alloc, scheme(alloc, cursor, levels, kind)?)?;
     let word = place_of_word(alloc, cursor, Kind::Loop)?;
-    let stmts = Boxed::new(alloc, stmts(alloc, cursor, levels - 1)?)?;
+    let body = stmts_below(alloc, cursor, levels)?;
     let closing = closing(alloc, cursor, Kind::Loop)?;
-    Ok(Stmt::Loop(scheme, word, stmts, closing))
+    Ok(Stmt::Loop(scheme, word, body, closing))
 }
 
 // when_part = "when" expression

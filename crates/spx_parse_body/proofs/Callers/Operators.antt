@@ -1,6 +1,7 @@
 -- What the tables of operators give: the kind that was seen, and the layer.
 use Rattle.std.specs.Prelude.{⊤}
 use Rattle.std.proofs.Common.{◌≡◌, ◌⊎◌, inl, inr, ◌≤◌, Bool, [], Option, Some, refl, sym, ap, subst}
+use Rattle.std.proofs.lemmas.Option.{none-some}
 use Rattle.spx_tree.specs.declared.token.Kind.{Kind}
 use Rattle.spx_tree.specs.declared.token.Kind.TheVariants as k
 use Rattle.spx_tree.specs.declared.expression.InfixOp.{InfixOp}
@@ -49,28 +50,28 @@ signs layer kind found o a b e = subst (Signs layer kind) (some_is found o e) (r
 pub sign_is : (kind : Option Kind) (o : PrefixOp) → sign_of kind ≡ Some o → Signs layer.Sum kind o
 sign_is (Some k.Plus) o e = signs layer.Sum (Some k.Plus) sign.Plus o refl refl e
 sign_is (Some k.Minus) o e = signs layer.Sum (Some k.Minus) sign.Minus o refl refl e
-sign_is _ o e = absurd cc
+sign_is _ o e = absurd (none-some o e)
 
 pub word_is : (kind : Option Kind) (o : PrefixOp) → abs_or_not kind ≡ Some o → Signs layer.Factor kind o
 word_is (Some k.Abs) o e = signs layer.Factor (Some k.Abs) sign.Abs o refl refl e
 word_is (Some k.Not) o e = signs layer.Factor (Some k.Not) sign.Not o refl refl e
-word_is _ o e = absurd cc
+word_is _ o e = absurd (none-some o e)
 
 pub power_is : (kind : Option Kind) (o : InfixOp) → power_of kind ≡ Some o → Joins layer.Factor kind o
 power_is (Some k.DoubleAsterisk) o e = joins layer.Factor (Some k.DoubleAsterisk) op.Power o refl refl e
-power_is _ o e = absurd cc
+power_is _ o e = absurd (none-some o e)
 
 multiplying_is : (kind : Option Kind) (o : InfixOp) → multiplying kind ≡ Some o → Joins layer.Term kind o
 multiplying_is (Some k.Asterisk) o e = joins layer.Term (Some k.Asterisk) op.Multiply o refl refl e
 multiplying_is (Some k.Slash) o e = joins layer.Term (Some k.Slash) op.Divide o refl refl e
 multiplying_is (Some k.Mod) o e = joins layer.Term (Some k.Mod) op.Mod o refl refl e
 multiplying_is (Some k.Rem) o e = joins layer.Term (Some k.Rem) op.Rem o refl refl e
-multiplying_is _ o e = absurd cc
+multiplying_is _ o e = absurd (none-some o e)
 
 adding_is : (kind : Option Kind) (o : InfixOp) → adding kind ≡ Some o → Joins layer.Sum kind o
 adding_is (Some k.Plus) o e = joins layer.Sum (Some k.Plus) op.Add o refl refl e
 adding_is (Some k.Minus) o e = joins layer.Sum (Some k.Minus) op.Subtract o refl refl e
-adding_is _ o e = absurd cc
+adding_is _ o e = absurd (none-some o e)
 
 -- what follows the first operand of a relation
 abbrev pub Relates : Option Kind → Relator → Type 0
@@ -93,12 +94,12 @@ relator_is (Some k.Greater) x e = compares (Some k.Greater) op.Greater x refl re
 relator_is (Some k.GreaterOrEqual) x e = compares (Some k.GreaterOrEqual) op.GreaterOrEqual x refl refl e
 relator_is (Some k.In) x e = relates (Some k.In) relators.In x refl e
 relator_is (Some k.Not) x e = relates (Some k.Not) relators.NotIn x refl e
-relator_is _ x e = absurd cc
+relator_is _ x e = absurd (none-some x e)
 
 pub connective_is : (kind : Option Kind) (o : InfixOp) → connective_of kind ≡ Some o → Joins layer.Predicate kind o
 connective_is (Some k.Implication) o e = joins layer.Predicate (Some k.Implication) op.Implies o refl refl e
 connective_is (Some k.Equivalence) o e = joins layer.Predicate (Some k.Equivalence) op.Equivalent o refl refl e
-connective_is _ o e = absurd cc
+connective_is _ o e = absurd (none-some o e)
 
 -- ---- logical operators
 
@@ -114,7 +115,7 @@ pub logical_is : (kind : Option Kind) (o : InfixOp) → logical kind ≡ Some o 
 logical_is (Some k.And) o e = opens (Some k.And) op.And o refl refl (λ marked. refl) e
 logical_is (Some k.Or) o e = opens (Some k.Or) op.Or o refl refl (λ marked. refl) e
 logical_is (Some k.Xor) o e = opens (Some k.Xor) op.Xor o refl refl (λ marked. refl) e
-logical_is _ o e = absurd cc
+logical_is _ o e = absurd (none-some o e)
 
 -- what a logical operator begins, where this comes after it
 pub record Completes (o : InfixOp) (kind : Option Kind) (whole : InfixOp) : Type 0 where
@@ -124,16 +125,16 @@ pub record Completes (o : InfixOp) (kind : Option Kind) (whole : InfixOp) : Type
 
 then_is : (kind : Option Kind) (whole : InfixOp) → if_then kind ≡ Some whole → Completes op.And kind whole
 then_is (Some k.Then) whole e = subst (Completes op.And (Some k.Then)) (some_is op.AndThen whole e) (record { same_kind = refl; layer_is = refl; second = inl (refl, refl) })
-then_is _ whole e = absurd cc
+then_is _ whole e = absurd (none-some whole e)
 
 else_is : (kind : Option Kind) (whole : InfixOp) → if_else kind ≡ Some whole → Completes op.Or kind whole
 else_is (Some k.Else) whole e = subst (Completes op.Or (Some k.Else)) (some_is op.OrElse whole e) (record { same_kind = refl; layer_is = refl; second = inr (refl, refl) })
-else_is _ whole e = absurd cc
+else_is _ whole e = absurd (none-some whole e)
 
 pub short_circuit_is : (o : InfixOp) (kind : Option Kind) (whole : InfixOp) → short_circuit o kind ≡ Some whole → Completes o kind whole
 short_circuit_is op.And kind whole e = then_is kind whole e
 short_circuit_is op.Or kind whole e = else_is kind whole e
-short_circuit_is _ kind whole e = absurd cc
+short_circuit_is _ kind whole e = absurd (none-some whole e)
 
 -- ---- chains
 
@@ -152,15 +153,15 @@ continues o kind other a b e = subst (Continues o kind) (some_is o other e) (rec
 
 and_is : (o : InfixOp) (kind : Option Kind) (other : InfixOp) → operator_kind o ≡ k.And → layer_of o ≡ layer.Expression → if_and o kind ≡ Some other → Continues o kind other
 and_is o (Some k.And) other a b e = continues o (Some k.And) other (ap (λ (z : Kind). Some z) (sym a)) b e
-and_is o _ other a b e = absurd cc
+and_is o _ other a b e = absurd (none-some other e)
 
 or_is : (o : InfixOp) (kind : Option Kind) (other : InfixOp) → operator_kind o ≡ k.Or → layer_of o ≡ layer.Expression → if_or o kind ≡ Some other → Continues o kind other
 or_is o (Some k.Or) other a b e = continues o (Some k.Or) other (ap (λ (z : Kind). Some z) (sym a)) b e
-or_is o _ other a b e = absurd cc
+or_is o _ other a b e = absurd (none-some other e)
 
 xor_is : (o : InfixOp) (kind : Option Kind) (other : InfixOp) → operator_kind o ≡ k.Xor → layer_of o ≡ layer.Expression → if_xor o kind ≡ Some other → Continues o kind other
 xor_is o (Some k.Xor) other a b e = continues o (Some k.Xor) other (ap (λ (z : Kind). Some z) (sym a)) b e
-xor_is o _ other a b e = absurd cc
+xor_is o _ other a b e = absurd (none-some other e)
 
 same_is : (o : InfixOp) (kind : Option Kind) (other : InfixOp) → same_logical o kind ≡ Some other → Continues o kind other
 same_is op.And kind other e = and_is op.And kind other refl refl e
@@ -168,7 +169,7 @@ same_is op.AndThen kind other e = and_is op.AndThen kind other refl refl e
 same_is op.Or kind other e = or_is op.Or kind other refl refl e
 same_is op.OrElse kind other e = or_is op.OrElse kind other refl refl e
 same_is op.Xor kind other e = xor_is op.Xor kind other refl refl e
-same_is _ kind other e = absurd cc
+same_is _ kind other e = absurd (none-some other e)
 
 pub chain_is : (c : Chain) (kind : Option Kind) (o : InfixOp) → goes_on c kind ≡ Some o → Joins (chain_layer c) kind o
 chain_is chain.Multiplying kind o e = multiplying_is kind o e

@@ -1,6 +1,7 @@
 -- The readers of statements keep the laws of readers.
 use Rattle.std.specs.Prelude.{⊤}
 use Rattle.std.proofs.Common.{◌≡◌, ℕ, zero, suc, ◌-◌, ◌<◌, true, List, [], ◌∷◌, ◌++◌, map, Option, Some, None, is_some, refl, sym, ap, subst, ◌∙◌, append_assoc, arith}
+use Rattle.std.proofs.lemmas.Option.{none-some}
 use Rattle.std.proofs.lemmas.List.{append-nil}
 use Rattle.spx_text.specs.declared.place.Place.{Place}
 use Rattle.spx_tree.specs.declared.token.Kind.{Kind}
@@ -133,7 +134,7 @@ starts_as kind noted found x s e = subst (StartsAs kind noted) (some_is found x 
 noted_is : (kind noted : Option Kind) (x : StmtKind) → noted_stmt noted ≡ Some x → StartsAs kind noted x
 noted_is kind (Some k.Assert) x e = starts_as kind (Some k.Assert) (kinds.Assertion assertion.Assert) x refl e
 noted_is kind (Some k.Check) x e = starts_as kind (Some k.Check) (kinds.Assertion assertion.Check) x refl e
-noted_is kind _ x e = absurd cc
+noted_is kind _ x e = absurd (none-some x e)
 
 stmt_is : (kind noted : Option Kind) (x : StmtKind) → stmt_of kind noted ≡ Some x → StartsAs kind noted x
 stmt_is (Some k.Null) noted x e = starts_as (Some k.Null) noted kinds.Null x refl e

@@ -45,7 +45,7 @@ abbrev pub decreases-attribute : goal.decreases-attribute
 decreases-attribute l = 20 * l.levels + 3
 
 abbrev pub decreases-application : goal.decreases-application
-decreases-application l = 20 * l.levels + 1
+decreases-application l = 20 * l.levels + 2
 
 abbrev pub decreases-inside : goal.decreases-inside
 decreases-inside l = 20 * l.levels + 5
@@ -69,7 +69,13 @@ abbrev pub decreases-operated : goal.decreases-operated
 decreases-operated l = 20 * l.levels + 2
 
 abbrev pub decreases-in_parentheses : goal.decreases-in_parentheses
-decreases-in_parentheses l = 20 * l.levels + 1
+decreases-in_parentheses l = 20 * l.levels + 2
+
+abbrev pub decreases-between_parentheses : goal.decreases-between_parentheses
+decreases-between_parentheses l = 20 * l.levels + 1
+
+abbrev pub decreases-below : goal.decreases-below
+decreases-below l = 20 * l.levels
 
 abbrev pub invariant-chained-loop-op : goal.invariant-chained-loop-op
 invariant-chained-loop-op l = (chained l.marked (below l.marked l.levels) l.levels l.chain l.fn.first l.fn.cursor ≡ chained l.marked (below l.marked l.levels) l.levels l.chain l.left l.cursor) × (l.left.height ≤ l.levels)

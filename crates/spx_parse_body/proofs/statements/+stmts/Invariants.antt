@@ -3,40 +3,43 @@ use Rattle.spx_parse_body.specs.Statements.{alternatives, elsif_arms, more_alter
 use Rattle.spx_parse_body.proofs.statements.+stmts.Given as goal
 
 abbrev pub decreases-stmts : goal.decreases-stmts
-decreases-stmts l = 6 * l.levels + 5
+decreases-stmts l = 7 * l.levels + 6
 
 abbrev pub decreases-stmt : goal.decreases-stmt
-decreases-stmt l = 6 * l.levels + 4
+decreases-stmt l = 7 * l.levels + 5
 
 abbrev pub decreases-if_statement : goal.decreases-if_statement
-decreases-if_statement l = 6 * l.levels + 3
+decreases-if_statement l = 7 * l.levels + 4
 
 abbrev pub decreases-case_statement : goal.decreases-case_statement
-decreases-case_statement l = 6 * l.levels + 3
+decreases-case_statement l = 7 * l.levels + 4
 
 abbrev pub decreases-loop_statement : goal.decreases-loop_statement
-decreases-loop_statement l = 6 * l.levels + 3
+decreases-loop_statement l = 7 * l.levels + 4
 
 abbrev pub decreases-alternatives : goal.decreases-alternatives
-decreases-alternatives l = 6 * l.levels + 2
+decreases-alternatives l = 7 * l.levels + 2
 
 abbrev pub decreases-alternative : goal.decreases-alternative
-decreases-alternative l = 6 * l.levels + 1
+decreases-alternative l = 7 * l.levels + 1
 
 abbrev pub decreases-elsif_arms : goal.decreases-elsif_arms
-decreases-elsif_arms l = 6 * l.levels + 2
+decreases-elsif_arms l = 7 * l.levels + 3
 
 abbrev pub decreases-elsif_arm : goal.decreases-elsif_arm
-decreases-elsif_arm l = 6 * l.levels + 1
+decreases-elsif_arm l = 7 * l.levels + 2
 
 abbrev pub decreases-arm : goal.decreases-arm
-decreases-arm l = 6 * l.levels
+decreases-arm l = 7 * l.levels + 1
 
 abbrev pub decreases-optional_else : goal.decreases-optional_else
-decreases-optional_else l = 6 * l.levels + 1
+decreases-optional_else l = 7 * l.levels + 2
 
 abbrev pub decreases-else_part : goal.decreases-else_part
-decreases-else_part l = 6 * l.levels
+decreases-else_part l = 7 * l.levels + 1
+
+abbrev pub decreases-stmts_below : goal.decreases-stmts_below
+decreases-stmts_below l = 7 * l.levels
 
 abbrev pub invariant-elsif_arms-more : goal.invariant-elsif_arms-more
 invariant-elsif_arms-more l = elsif_arms (stmts_below l.levels) l.levels (l.fn.first ∷ []) l.fn.cursor ≡ elsif_arms (stmts_below l.levels) l.levels l.arms l.cursor
