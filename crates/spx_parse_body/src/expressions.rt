@@ -3,7 +3,7 @@ ghost use Rattle.std.specs.Prelude.{◌≡◌, ◌<◌, ◌≤◌, ◌+◌, ◌-
 ghost use Rattle.spx_tree.specs.Form.{Form, keeps, ItsPlace};
 ghost use Rattle.spx_tree.specs.Written.{program};
 ghost use Rattle.spx_tree.specs.declared.token.Kind.TheVariants as k;
-ghost use Rattle.spx_parse_body.specs.declared.expressions.Tall.{Tall as Height};
+ghost use Rattle.spx_parse_body.specs.declared.expressions.Tall.{Tall as AsTall};
 ghost use Rattle.spx_parse_body.specs.Expressions as read;
 ghost use Rattle.spx_cursor.specs.Reading as reading;
 ghost use Rattle.spx_cursor.specs.Reading.{◌>>=◌ as ◌▷◌};
@@ -31,7 +31,7 @@ pub struct Tall {
 
 /// An expression of this height.
 fn node(alloc: Global, expr: Expr, height: u32) -> Result<Tall, Stop>
-    ensures gives { (fs : List Form) → Reads (reading.pure {A = Height} (record { expr = expr; height = height }) fs) result fs }
+    ensures gives { (fs : List Form) → Reads (reading.pure {A = AsTall} (record { expr = expr; height = height }) fs) result fs }
     ensures low { IfOk result (λ t. t.height ≡ height) }
 {
     let expr = Boxed::new(alloc, expr)?;
