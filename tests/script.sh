@@ -428,7 +428,7 @@ run with_rt "$tree/spx" build
 ends 0
 says 'building the program'
 says 'the first time this takes about 35 minutes (processors: 4)'
-says 'the tests, .ci/run, take about 56 minutes'
+says 'the tests, .ci/run, take about 57 minutes'
 says 'built in'
 prints ''
 touch -t 202001010000 "$tree/crates/spx_cli/src/main.rt" "$tree/crates/spx_cli/src"
