@@ -1,5 +1,7 @@
 -- Entries and their trees.
 use Rattle.std.proofs.Common.{◌≡◌, ℕ, ◌+◌, ◌<◌, ◌≤◌, Bool, true, false, List, [], ◌∷◌, ◌++◌, length, take, drop, fold, refl, sym, ap, ◌∙◌, rules, subst, arith, length-append, below_more, inl, inr, ◌⊎◌, cond, slice_get, Some, Decides, true≢false}
+use Rattle.std.proofs.lemmas.Bool.{and_parts}
+use Rattle.std.proofs.Common.{◌==◌, ◌&&◌}
 use Rattle.std.proofs.lemmas.Option.{get_or_from_slice_get}
 use Rattle.std.proofs.lemmas.List.{length-take-le, take-append-drop}
 use Rattle.std.proofs.lemmas.List.Folds.{list_any_at}
@@ -11,8 +13,30 @@ use Rattle.std.proofs.Math.Seq.{get_or-append_seam, take-append_seam}
 use denote.Enum.Bare.{sameb, same_true, true_same}
 use Rattle.spx_term.specs.declared.term.TermOp.{TermOp}
 use Rattle.spx_term.specs.contracts.term.TermOp.{the_type}
+use Rattle.std.specs.contracts.prelude.I128PartialEq.TheImpl as int_impl
+use Rattle.spx_term.specs.declared.term.Component.{Component}
+use Rattle.spx_term.specs.declared.term.Component.TheVariants as component
+use Rattle.spx_term.specs.contracts.term.ComponentPartialEq.TheImpl as component_impl
+use Rattle.spx_term.specs.declared.term.FieldName.{FieldName}
+use Rattle.spx_term.specs.contracts.term.FieldNamePartialEq.TheImpl as field_impl
+use Rattle.spx_term.specs.declared.term.ArrayType.{ArrayType}
+use Rattle.spx_term.specs.contracts.term.ArrayTypePartialEq.TheImpl as array_impl
+use Rattle.spx_term.specs.declared.term.UnaryOp.{UnaryOp}
+use Rattle.spx_term.specs.declared.term.UnaryOp.TheVariants as unary
+use Rattle.spx_term.specs.contracts.term.UnaryOpPartialEq.TheImpl as unary_impl
+use Rattle.spx_term.specs.declared.term.BinaryOp.{BinaryOp}
+use Rattle.spx_term.specs.declared.term.BinaryOp.TheVariants as binary
+use Rattle.spx_term.specs.contracts.term.BinaryOpPartialEq.TheImpl as binary_impl
+use Rattle.spx_term.specs.declared.term.TernaryOp.{TernaryOp}
+use Rattle.spx_term.specs.declared.term.TernaryOp.TheVariants as ternary
+use Rattle.spx_term.specs.contracts.term.TernaryOpPartialEq.TheImpl as ternary_impl
+use Rattle.spx_term.specs.declared.term.BoundVariable.{BoundVariable}
+use Rattle.spx_term.specs.contracts.term.BoundVariablePartialEq.TheImpl as bound_impl
+use Rattle.spx_term.specs.declared.term.Quantifier.{Quantifier}
+use Rattle.spx_term.specs.declared.term.Quantifier.TheVariants as quantifier
+use Rattle.spx_term.specs.contracts.term.QuantifierPartialEq.TheImpl as quantifier_impl
 use Rattle.spx_term.specs.declared.term.Term.{Term, Term-F, out-Term}
-use Rattle.spx_term.specs.declared.term.Term.TheVariants.{outs-Number, outs-Truth, outs-Variable, outs-Prefix, outs-Infix}
+use Rattle.spx_term.specs.declared.term.Term.TheVariants.{outs-Number, outs-Truth, outs-Variable, outs-Prefix, outs-Infix, outs-Blank, outs-Unary, outs-Binary, outs-Ternary}
 use Rattle.spx_term.specs.declared.term.Term.TheVariants as term
 use Rattle.spx_term.specs.Sizes.{size_of}
 use Rattle.spx_arena.specs.contracts.terms.EntryPartialEq.TheImpl as entry_impl
@@ -20,7 +44,7 @@ use Rattle.spx_arena.specs.contracts.terms.NodePartialEq.TheImpl as node_impl
 use Rattle.spx_arena.specs.declared.terms.TermId.{TermId}
 use Rattle.spx_arena.specs.declared.terms.Entry.{Entry}
 use Rattle.spx_arena.specs.declared.terms.Node.{Node}
-use Rattle.spx_arena.specs.declared.terms.Node.TheVariants.{Number, Truth, Variable, Prefix, Infix}
+use Rattle.spx_arena.specs.declared.terms.Node.TheVariants.{Number, Truth, Variable, Blank, Prefix, Infix, Unary, Binary, Ternary}
 use Rattle.spx_arena.specs.Counts.{counted}
 use Rattle.spx_arena.specs.Trees.{tree_at, tree_in, Below, Distinct}
 use Rattle.spx_arena.specs.Entries.{with_tree, trees_of, entry_at, Sound}
@@ -39,16 +63,131 @@ op_same a = true_same the_type a a refl
 abbrev node_eq : Node → Node → Bool
 node_eq = (node_impl.ghosts).eq
 
+-- the derived equality of the operators of terms
+component_eq-Decides : (x y : Component) → Decides ((component_impl.ghosts).eq x y) (x ≡ y)
+component_eq-Decides (component.Integer a b) (component.Integer c d) = search rules
+component_eq-Decides component.Boolean component.Boolean = search rules
+component_eq-Decides (component.Composite m) (component.Composite n) = search rules
+component_eq-Decides _ _ = search rules
+
+component_true : (x y : Component) → (component_impl.ghosts).eq x y ≡ true → x ≡ y
+component_true x y = (component_eq-Decides x y).0
+
+component_same : (x : Component) → (component_impl.ghosts).eq x x ≡ true
+component_same x = (component_eq-Decides x x).1 refl
+
+field_eq-Decides : (x y : FieldName) → Decides ((field_impl.ghosts).eq x y) (x ≡ y)
+field_eq-Decides x y = search rules
+
+array_eq-Decides : (x y : ArrayType) → Decides ((array_impl.ghosts).eq x y) (x ≡ y)
+array_eq-Decides x y = (
+  λ h.
+      let firsts_eq = (int_impl.ghosts).eq x.first y.first in
+      let lasts_eq = (int_impl.ghosts).eq x.last y.last in
+      let elements_eq = (component_impl.ghosts).eq x.element y.element in
+      let first = and_parts (x.position == y.position) (firsts_eq && (lasts_eq && elements_eq)) h in
+      let second = and_parts firsts_eq (lasts_eq && elements_eq) first.1 in
+      let third = and_parts lasts_eq elements_eq second.1 in
+      let elements : x.element ≡ y.element = component_true x.element y.element third.1 in
+      let positions : x.position ≡ y.position = search (rules, first.0) in
+      let firsts : x.first ≡ y.first = search (rules, second.0) in
+      let lasts : x.last ≡ y.last = search (rules, third.0) in
+      λ i. record { position = positions i; first = firsts i; last = lasts i; element = elements i },
+  λ e. subst (λ z. (array_impl.ghosts).eq x z ≡ true) e (search (rules, component_same)),
+)
+
+unary_eq-Decides : (x y : UnaryOp) → Decides ((unary_impl.ghosts).eq x y) (x ≡ y)
+unary_eq-Decides (unary.Field f c) (unary.Field g d) = search (rules, field_eq-Decides, component_eq-Decides)
+unary_eq-Decides (unary.In m) (unary.In n) = search rules
+unary_eq-Decides (unary.Others m) (unary.Others n) = search rules
+unary_eq-Decides _ _ = search rules
+
+unary_true : (x y : UnaryOp) → (unary_impl.ghosts).eq x y ≡ true → x ≡ y
+unary_true x y = (unary_eq-Decides x y).0
+
+unary_same : (x : UnaryOp) → (unary_impl.ghosts).eq x x ≡ true
+unary_same x = (unary_eq-Decides x x).1 refl
+
+binary_eq-Decides : (x y : BinaryOp) → Decides ((binary_impl.ghosts).eq x y) (x ≡ y)
+binary_eq-Decides (binary.Element t) (binary.Element u) = search (rules, array_eq-Decides)
+binary_eq-Decides (binary.Update f) (binary.Update g) = search (rules, field_eq-Decides)
+binary_eq-Decides (binary.Elements m a b) (binary.Elements n c d) = search rules
+binary_eq-Decides (binary.Field f) (binary.Field g) = search (rules, field_eq-Decides)
+binary_eq-Decides _ _ = search rules
+
+binary_true : (x y : BinaryOp) → (binary_impl.ghosts).eq x y ≡ true → x ≡ y
+binary_true x y = (binary_eq-Decides x y).0
+
+binary_same : (x : BinaryOp) → (binary_impl.ghosts).eq x x ≡ true
+binary_same x = (binary_eq-Decides x x).1 refl
+
+quantifier_eq-Decides : (x y : Quantifier) → Decides ((quantifier_impl.ghosts).eq x y) (x ≡ y)
+quantifier_eq-Decides quantifier.All quantifier.All = search rules
+quantifier_eq-Decides quantifier.Some quantifier.Some = search rules
+quantifier_eq-Decides _ _ = search rules
+
+bound_eq-Decides : (x y : BoundVariable) → Decides ((bound_impl.ghosts).eq x y) (x ≡ y)
+bound_eq-Decides x y = search rules
+
+ternary_eq-Decides : (x y : TernaryOp) → Decides ((ternary_impl.ghosts).eq x y) (x ≡ y)
+ternary_eq-Decides (ternary.Update m) (ternary.Update n) = search rules
+ternary_eq-Decides (ternary.Quantified q d) (ternary.Quantified r e) = search (rules, quantifier_eq-Decides, bound_eq-Decides)
+ternary_eq-Decides _ _ = search rules
+
+ternary_true : (x y : TernaryOp) → (ternary_impl.ghosts).eq x y ≡ true → x ≡ y
+ternary_true x y = (ternary_eq-Decides x y).0
+
+ternary_same : (x : TernaryOp) → (ternary_impl.ghosts).eq x x ≡ true
+ternary_same x = (ternary_eq-Decides x x).1 refl
+
 node_eq-Decides : (x y : Node) → Decides (node_eq x y) (x ≡ y)
 node_eq-Decides (Number m) (Number n) = search rules
 node_eq-Decides (Truth b) (Truth c) = search rules
 node_eq-Decides (Variable x) (Variable y) = search rules
 node_eq-Decides (Prefix o a) (Prefix p b) = search rules
 node_eq-Decides (Infix o a b) (Infix p c d) = search (rules, op_true, op_same)
+node_eq-Decides (Blank m) (Blank n) = search rules
+node_eq-Decides (Unary o a) (Unary p b) = (
+  λ h.
+      let parts = and_parts ((unary_impl.ghosts).eq o p) _ h in
+      let ops : o ≡ p = unary_true o p parts.0 in
+      let id_0 : a ≡ b = search (rules, parts.1) in
+      λ i. Unary (ops i) (id_0 i),
+  λ s. subst (λ z. node_eq (Unary o a) z ≡ true) s (search (rules, unary_same)),
+)
+node_eq-Decides (Binary o a b) (Binary p c d) = (
+  λ h.
+      let parts = and_parts ((binary_impl.ghosts).eq o p) _ h in
+      let ops : o ≡ p = binary_true o p parts.0 in
+      let id_0 : a ≡ c = search (rules, parts.1) in
+      let id_1 : b ≡ d = search (rules, parts.1) in
+      λ i. Binary (ops i) (id_0 i) (id_1 i),
+  λ s. subst (λ z. node_eq (Binary o a b) z ≡ true) s (search (rules, binary_same)),
+)
+node_eq-Decides (Ternary o a b c) (Ternary p d e f) = (
+  λ h.
+      let parts = and_parts ((ternary_impl.ghosts).eq o p) _ h in
+      let ops : o ≡ p = ternary_true o p parts.0 in
+      let id_0 : a ≡ d = search (rules, parts.1) in
+      let id_1 : b ≡ e = search (rules, parts.1) in
+      let id_2 : c ≡ f = search (rules, parts.1) in
+      λ i. Ternary (ops i) (id_0 i) (id_1 i) (id_2 i),
+  λ s. subst (λ z. node_eq (Ternary o a b c) z ≡ true) s (search (rules, ternary_same)),
+)
 node_eq-Decides _ _ = search rules
 
+node_same : (n : Node) → node_eq n n ≡ true
+node_same n = (node_eq-Decides n n).1 refl
+
 pub entry_eq-Decides : (x y : Entry) → Decides (entry_eq x y) (x ≡ y)
-entry_eq-Decides x y = search (rules, node_eq-Decides)
+entry_eq-Decides x y = (
+  λ h.
+      let parts = and_parts (node_eq x.node y.node) (x.size == y.size) h in
+      let nodes : x.node ≡ y.node = (node_eq-Decides x.node y.node).0 parts.0 in
+      let sizes : x.size ≡ y.size = search (rules, parts.1) in
+      λ i. record { node = nodes i; size = sizes i },
+  λ e. subst (λ z. entry_eq x z ≡ true) e (search (rules, node_same)),
+)
 
 -- one level of the tree of a node
 abbrev layer_in : List Term → Node → Term-F Term
@@ -57,6 +196,10 @@ layer_in ts (Truth b) = Term-F.Truth b
 layer_in ts (Variable name) = Term-F.Variable name
 layer_in ts (Prefix op a) = Term-F.Prefix op (tree_at ts a)
 layer_in ts (Infix op a b) = Term-F.Infix op (tree_at ts a) (tree_at ts b)
+layer_in ts (Blank id) = Term-F.Blank id
+layer_in ts (Unary op a) = Term-F.Unary op (tree_at ts a)
+layer_in ts (Binary op a b) = Term-F.Binary op (tree_at ts a) (tree_at ts b)
+layer_in ts (Ternary op a b c) = Term-F.Ternary op (tree_at ts a) (tree_at ts b) (tree_at ts c)
 
 out_in : (ts : List Term) (x : Node) → out-Term (tree_in ts x) ≡ layer_in ts x
 out_in ts (Number n) = outs-Number n
@@ -64,6 +207,10 @@ out_in ts (Truth b) = outs-Truth b
 out_in ts (Variable name) = outs-Variable name
 out_in ts (Prefix op a) = outs-Prefix op (tree_at ts a)
 out_in ts (Infix op a b) = outs-Infix op (tree_at ts a) (tree_at ts b)
+out_in ts (Blank id) = outs-Blank id
+out_in ts (Unary op a) = outs-Unary op (tree_at ts a)
+out_in ts (Binary op a b) = outs-Binary op (tree_at ts a) (tree_at ts b)
+out_in ts (Ternary op a b c) = outs-Ternary op (tree_at ts a) (tree_at ts b) (tree_at ts c)
 
 same_layer : (ts : List Term) (x y : Node) → layer_in ts x ≡ layer_in ts y → Distinct ts → Below (length ts) x → Below (length ts) y → x ≡ y
 same_layer ts (Number m) (Number n) e d p q = cc
@@ -81,6 +228,28 @@ same_layer ts (Infix o a b) (Infix p c f) e d u v =
     let rights : b.0 ≡ f.0 = d.same b f u.1 v.1 right in
     let ops : o ≡ p = cc in
     λ i. Infix (ops i) (record { 0 = lefts i }) (record { 0 = rights i })
+same_layer ts (Blank m) (Blank n) e d p q = cc
+same_layer ts (Unary o a) (Unary p b) e d u v =
+    let parts : tree_at ts a ≡ tree_at ts b = cc in
+    let ids : a.0 ≡ b.0 = d.same a b u v parts in
+    let ops : o ≡ p = cc in
+    λ i. Unary (ops i) (record { 0 = ids i })
+same_layer ts (Binary o a b) (Binary p c f) e d u v =
+    let left : tree_at ts a ≡ tree_at ts c = cc in
+    let right : tree_at ts b ≡ tree_at ts f = cc in
+    let lefts : a.0 ≡ c.0 = d.same a c u.0 v.0 left in
+    let rights : b.0 ≡ f.0 = d.same b f u.1 v.1 right in
+    let ops : o ≡ p = cc in
+    λ i. Binary (ops i) (record { 0 = lefts i }) (record { 0 = rights i })
+same_layer ts (Ternary o a b c) (Ternary p f g h) e d u v =
+    let first : tree_at ts a ≡ tree_at ts f = cc in
+    let second : tree_at ts b ≡ tree_at ts g = cc in
+    let third : tree_at ts c ≡ tree_at ts h = cc in
+    let firsts : a.0 ≡ f.0 = d.same a f u.0 v.0 first in
+    let seconds : b.0 ≡ g.0 = d.same b g u.1 v.1 second in
+    let thirds : c.0 ≡ h.0 = d.same c h u.2 v.2 third in
+    let ops : o ≡ p = cc in
+    λ i. Ternary (ops i) (record { 0 = firsts i }) (record { 0 = seconds i }) (record { 0 = thirds i })
 same_layer ts _ _ e d p q = cc
 
 pub same_node : (ts : List Term) (x y : Node) → tree_in ts x ≡ tree_in ts y → Distinct ts → Below (length ts) x → Below (length ts) y → x ≡ y
@@ -96,6 +265,10 @@ in_more ts t n (Truth c) b w = refl
 in_more ts t n (Variable name) b w = refl
 in_more ts t n (Prefix op a) b w = ap (term.Prefix op) (kept ts t a (omega arith))
 in_more ts t n (Infix op a c) b w = λ i. term.Infix op (kept ts t a (omega arith) i) (kept ts t c (omega arith) i)
+in_more ts t n (Blank id) b w = refl
+in_more ts t n (Unary op a) b w = ap (term.Unary op) (kept ts t a (omega arith))
+in_more ts t n (Binary op a c) b w = λ i. term.Binary op (kept ts t a (omega arith) i) (kept ts t c (omega arith) i)
+in_more ts t n (Ternary op a c e) b w = λ i. term.Ternary op (kept ts t a (omega arith) i) (kept ts t c (omega arith) i) (kept ts t e (omega arith) i)
 
 wider : (x : Node) {m n : ℕ} → Below m x → m ≤ n → Below n x
 wider (Number m) b w = b
@@ -103,6 +276,10 @@ wider (Truth c) b w = b
 wider (Variable name) b w = b
 wider (Prefix op a) b w = omega arith
 wider (Infix op a c) b w = (omega arith, omega arith)
+wider (Blank id) b w = b
+wider (Unary op a) b w = omega arith
+wider (Binary op a c) b w = (omega arith, omega arith)
+wider (Ternary op a c e) b w = (omega arith, omega arith, omega arith)
 
 lt_or_same : (i n : ℕ) → i < n + 1 → (i < n) ⊎ (i ≡ n)
 lt_or_same i n = below_more (λ k. (k < n) ⊎ (k ≡ n)) n (λ k w. inl w) (inr refl) i
@@ -226,6 +403,10 @@ in_grown old us (Truth c) g b = refl
 in_grown old us (Variable name) g b = refl
 in_grown old us (Prefix op a) g b = ap (term.Prefix op) (g.kept a b)
 in_grown old us (Infix op a c) g b = λ i. term.Infix op (g.kept a b.0 i) (g.kept c b.1 i)
+in_grown old us (Blank id) g b = refl
+in_grown old us (Unary op a) g b = ap (term.Unary op) (g.kept a b)
+in_grown old us (Binary op a c) g b = λ i. term.Binary op (g.kept a b.0 i) (g.kept c b.1 i)
+in_grown old us (Ternary op a c e) g b = λ i. term.Ternary op (g.kept a b.0 i) (g.kept c b.1 i) (g.kept e b.2 i)
 
 pub inserted_id : (es new : List Entry) (e : Entry) → Sound es → Below (length (trees_of es)) e.node → e.size ≡ counted (size_of (tree_in (trees_of es) e.node)) → new ≡ insert_key entry_eq es e
     → (at : ℕ) (k : Entry) → at < length new → slice_get new at ≡ Some k → entry_eq e k ≡ true → IsId (trees_of new) (record { 0 = at }) (tree_in (trees_of es) e.node)
@@ -285,6 +466,10 @@ kept_in ts us n (Truth c) k b = refl
 kept_in ts us n (Variable name) k b = refl
 kept_in ts us n (Prefix op a) k b = ap (term.Prefix op) (k a b)
 kept_in ts us n (Infix op a c) k b = λ i. term.Infix op (k a b.0 i) (k c b.1 i)
+kept_in ts us n (Blank id) k b = refl
+kept_in ts us n (Unary op a) k b = ap (term.Unary op) (k a b)
+kept_in ts us n (Binary op a c) k b = λ i. term.Binary op (k a b.0 i) (k c b.1 i)
+kept_in ts us n (Ternary op a c e) k b = λ i. term.Ternary op (k a b.0 i) (k c b.1 i) (k e b.2 i)
 
 module _ (es fs : List Entry) (s : Sound (es ++ fs)) where
   abbrev first : List Term

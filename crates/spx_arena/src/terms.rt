@@ -1,13 +1,18 @@
 // Terms by ids.
 ghost use Rattle.std.specs.Prelude.{◌≡◌, ◌<◌, ◌≤◌, ◌+◌, [], length, take, IfOk, OnOk, OnErr};
 ghost use Rattle.spx_term.specs.declared.term.Term.TheVariants as term;
-ghost use Rattle.spx_term.specs.Folding.{term_of};
-ghost use Rattle.spx_term.specs.Sizes.{size_of};
+ghost use Rattle.spx_term.specs.Folding.{static_term, term_of};
+ghost use Rattle.spx_term.specs.Sizes.{own_size, size_of};
 ghost use Rattle.spx_arena.specs.Counts.{counted};
 ghost use Rattle.spx_arena.specs.Sharing.{tree_at, tree_in, Adds, Below, Closed, Distinct, Extends, Grows, IsId};
 
 use indexmap::IndexSet;
-use spx_term::{MOST_NODES, Name, Term, TermOp, TermPrefix, Value};
+use spx_term::{
+    BinaryOp, Literal, MOST_LEVELS, MOST_NODES, Name, Scalar, Term, TermOp, TermPrefix, TernaryOp,
+    UnaryOp, boxed_binary, boxed_blank, boxed_infix, boxed_number, boxed_prefix, boxed_ternary,
+    boxed_truth, boxed_unary, boxed_variable,
+};
+use sqlite_items::Boxed;
 use std::alloc::{AllocError, Global};
 use std::marker::Model;
 
@@ -23,6 +28,11 @@ pub enum Node {
     Variable(Name),
     Prefix(TermPrefix, TermId),
     Infix(TermOp, TermId, TermId),
+    /// The first value of a composite type, with which an aggregate begins.
+    Blank(usize),
+    Unary(UnaryOp, TermId),
+    Binary(BinaryOp, TermId, TermId),
+    Ternary(TernaryOp, TermId, TermId, TermId),
 }
 
 /// A node, and how many nodes its tree has, counted up to `MOST_NODES + 1`.
@@ -65,6 +75,16 @@ pub fn counted_sum(left: u32, right: u32) -> u32
         MOST_NODES + 1
     } else {
         sum
+    }
+}
+
+/// How many nodes an operation adds to those of its parts. An aggregate is one node with all its components.
+pub fn own_size(op: BinaryOp) -> u32
+    ensures { result ≡ own_size op }
+{
+    match op {
+        BinaryOp::Elements(_, _, _) | BinaryOp::Field(_) => 0,
+        BinaryOp::Element(_) | BinaryOp::Update(_) => 1,
     }
 }
 
@@ -112,6 +132,22 @@ impl Terms {
                 let right = self.size(right);
                 counted_sum(counted_sum(left, right), 1)
             }
+            Node::Blank(_) => 1,
+            Node::Unary(_, operand) => {
+                let operand = self.size(operand);
+                counted_sum(operand, 1)
+            }
+            Node::Binary(op, left, right) => {
+                let left = self.size(left);
+                let right = self.size(right);
+                counted_sum(counted_sum(left, right), own_size(op))
+            }
+            Node::Ternary(_, first, second, third) => {
+                let first = self.size(first);
+                let second = self.size(second);
+                let third = self.size(third);
+                counted_sum(counted_sum(counted_sum(first, second), third), 1)
+            }
         }
     }
 
@@ -128,14 +164,23 @@ impl Terms {
         Ok(TermId(at))
     }
 
-    /// The id of the literal of a value.
-    pub fn literal(&mut self, value: Value) -> Result<TermId, AllocError>
+    /// The id of the literal of a number or a truth value.
+    #[tactic(auto, using(spx_term::specs::Values::literal_back))]
+    pub fn scalar(&mut self, value: Scalar) -> Result<TermId, AllocError>
+        ensures added { IfOk result (λ id. Adds self.old self.new id (static_term value)) }
+        ensures refused { OnErr result (self.new ≡ self.old) }
+    {
+        self.literal(value.literal())
+    }
+
+    /// The id of a literal.
+    pub fn literal(&mut self, value: Literal) -> Result<TermId, AllocError>
         ensures added { IfOk result (λ id. Adds self.old self.new id (term_of value)) }
         ensures refused { OnErr result (self.new ≡ self.old) }
     {
         match value {
-            Value::Number(value) => self.make(Node::Number(value)),
-            Value::Truth(value) => self.make(Node::Truth(value)),
+            Literal::Number(value) => self.make(Node::Number(value)),
+            Literal::Truth(value) => self.make(Node::Truth(value)),
         }
     }
 
@@ -155,7 +200,7 @@ impl Terms {
         ensures refused { OnErr result (self.new ≡ self.old) }
     {
         let count = self.len();
-        match self.insert(tree) {
+        match self.insert(tree, MOST_LEVELS) {
             Ok(id) => Ok(id),
             Err(refused) => {
                 self.truncate(count);
@@ -164,25 +209,44 @@ impl Terms {
         }
     }
 
-    /// The id of a tree. Where memory runs out, some of its parts have come in.
+    /// The id of a tree. Where memory runs out, some of its parts have come in. The stack has room for so many levels of it.
     #[cycle(insert)]
-    fn insert(&mut self, tree: &Term) -> Result<TermId, AllocError>
+    fn insert(&mut self, tree: &Term, room: u32) -> Result<TermId, AllocError>
         ensures grown { Grows self.old self.new }
         ensures interned { IfOk result (λ id. IsId self.new id tree.now) }
         ensures extended { Extends self.old self.new }
     {
+        if room == 0 {
+            return Err(AllocError);
+        }
         match tree {
             Term::Number(value) => self.make(Node::Number(*value)),
             Term::Truth(value) => self.make(Node::Truth(*value)),
             Term::Variable(name) => self.make(Node::Variable(*name)),
             Term::Prefix(op, operand) => {
-                let operand = self.insert(operand.get())?;
+                let operand = self.insert(operand.get(), room - 1)?;
                 self.make(Node::Prefix(*op, operand))
             }
             Term::Infix(op, left, right) => {
-                let left = self.insert(left.get())?;
-                let right = self.insert(right.get())?;
+                let left = self.insert(left.get(), room - 1)?;
+                let right = self.insert(right.get(), room - 1)?;
                 self.make(Node::Infix(*op, left, right))
+            }
+            Term::Blank(id) => self.make(Node::Blank(*id)),
+            Term::Unary(op, operand) => {
+                let operand = self.insert(operand.get(), room - 1)?;
+                self.make(Node::Unary(*op.get(), operand))
+            }
+            Term::Binary(op, left, right) => {
+                let left = self.insert(left.get(), room - 1)?;
+                let right = self.insert(right.get(), room - 1)?;
+                self.make(Node::Binary(*op.get(), left, right))
+            }
+            Term::Ternary(op, first, second, third) => {
+                let first = self.insert(first.get(), room - 1)?;
+                let second = self.insert(second.get(), room - 1)?;
+                let third = self.insert(third.get(), room - 1)?;
+                self.make(Node::Ternary(*op.get(), first, second, third))
             }
         }
     }
@@ -218,24 +282,52 @@ impl Terms {
         let _count = self.entries.len();
     }
 
-    /// The term as a tree.
-    #[cycle(tree_of)]
+    /// The term as a tree. One of more than `MOST_LEVELS` levels is refused.
     pub fn tree_of(&self, alloc: Global, id: TermId) -> Result<Term, AllocError>
         requires { id.0 < length self.now }
         ensures { IfOk result (λ tree. tree ≡ tree_at self.now id) }
     {
+        let tree = self.boxed_tree(alloc, id, MOST_LEVELS)?;
+        Ok(tree.into_inner())
+    }
+
+    /// The tree in a box, so that a level of it takes little of the stack, which has room for so many levels.
+    #[cycle(boxed_tree)]
+    fn boxed_tree(&self, alloc: Global, id: TermId, room: u32) -> Result<Boxed<Term>, AllocError>
+        requires { id.0 < length self.now }
+        ensures { IfOk result (λ tree. tree ≡ tree_at self.now id) }
+    {
+        if room == 0 {
+            return Err(AllocError);
+        }
         match self.node(id) {
-            Node::Number(value) => Ok(Term::Number(value)),
-            Node::Truth(value) => Ok(Term::Truth(value)),
-            Node::Variable(name) => Ok(Term::Variable(name)),
+            Node::Number(value) => boxed_number(alloc, value),
+            Node::Truth(value) => boxed_truth(alloc, value),
+            Node::Variable(name) => boxed_variable(alloc, name),
+            Node::Blank(id) => boxed_blank(alloc, id),
             Node::Prefix(op, operand) => {
-                let operand = self.tree_of(alloc, operand)?;
-                Term::prefix(alloc, op, operand)
+                let operand = self.boxed_tree(alloc, operand, room - 1)?;
+                boxed_prefix(alloc, op, operand)
             }
             Node::Infix(op, left, right) => {
-                let left = self.tree_of(alloc, left)?;
-                let right = self.tree_of(alloc, right)?;
-                Term::infix(alloc, op, left, right)
+                let left = self.boxed_tree(alloc, left, room - 1)?;
+                let right = self.boxed_tree(alloc, right, room - 1)?;
+                boxed_infix(alloc, op, left, right)
+            }
+            Node::Unary(op, operand) => {
+                let operand = self.boxed_tree(alloc, operand, room - 1)?;
+                boxed_unary(alloc, op, operand)
+            }
+            Node::Binary(op, left, right) => {
+                let left = self.boxed_tree(alloc, left, room - 1)?;
+                let right = self.boxed_tree(alloc, right, room - 1)?;
+                boxed_binary(alloc, op, left, right)
+            }
+            Node::Ternary(op, first, second, third) => {
+                let first = self.boxed_tree(alloc, first, room - 1)?;
+                let second = self.boxed_tree(alloc, second, room - 1)?;
+                let third = self.boxed_tree(alloc, third, room - 1)?;
+                boxed_ternary(alloc, op, first, second, third)
             }
         }
     }

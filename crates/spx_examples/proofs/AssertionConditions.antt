@@ -24,7 +24,8 @@ use Rattle.spx_term.specs.declared.term.Term.TheVariants as term
 use Rattle.spx_term.specs.Conjuncts.{conjuncts, conjuncts-Infix, parts_of}
 use Rattle.spx_term.specs.Equality.{same_by}
 use Rattle.spx_term.specs.Plain.{is_among}
-use Rattle.spx_term.specs.Steps.{Tree, Cut, Claim, check, same_name, substituted, substituted_step, claims_of, with_new, without_doubles, tidy}
+use Rattle.spx_term.specs.Steps.{Tree, Cut, Claim, check, substituted, substituted_step, claims_of, with_new, without_doubles, tidy}
+use Rattle.spx_term.specs.Equality.{same_name}
 use Rattle.spx_term.proofs.Terms as terms
 use Rattle.spx_meaning.specs.Literals.{literal, literal_in}
 use Rattle.spx_formula.specs.Terms.{now_term, entry_term, literal_or, term_of, term_with-Entry, term_with-Infix, term_with-Number}

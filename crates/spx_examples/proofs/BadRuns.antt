@@ -234,7 +234,7 @@ not_bad n [] start natural kind at is = absurd (let none = start.imports_set x r
 not_bad n (None ∷ rest) start natural kind at is = absurd (let none = start.imports_set x refl in cc)
 not_bad n (Some (value.Number (pos m)) ∷ rest) start natural kind at is = absurd (let both = sym (not_negative n m rest) ∙ is in cc)
 not_bad n (Some (value.Number (negsuc m)) ∷ rest) start natural kind at is = absurd (natural m refl)
-not_bad n (Some (value.Truth b) ∷ rest) start natural kind at is = absurd (let none = start.in_types x in cc)
+not_bad n (Some _ ∷ rest) start natural kind at is = absurd (let none = start.in_types x in cc)
 
 pub negative : (n : ℕ) → call (program_of checking_natural) n checking_natural (number (negsuc 0) ∷ []) ≡ Bad bad.Check (place 6 8)
 unfolding value_of_op

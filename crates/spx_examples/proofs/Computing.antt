@@ -26,7 +26,8 @@ use Rattle.spx_term.specs.declared.term.Term.{Term}
 use Rattle.spx_term.specs.declared.term.Term.TheBlock.{hidden-the_row-Term-0}
 use Rattle.spx_term.specs.declared.term.Term.TheVariants as term
 use Rattle.spx_term.specs.Shapes.{infix_of, prefix_of}
-use Rattle.spx_term.specs.Steps.{Tree, Cut, Assume, Assign, Fresh, Prove, Split, Claim, claims_of, same_name, substituted, substituted_step, with_fact}
+use Rattle.spx_term.specs.Steps.{Tree, Cut, Assume, Assign, Fresh, Prove, Split, Claim, claims_of, substituted, substituted_step, with_fact}
+use Rattle.spx_term.specs.Equality.{same_name}
 use Rattle.spx_term.proofs.Terms as terms
 use Rattle.spx_meaning.specs.Evaluation.{term_op}
 use Rattle.spx_meaning.specs.Literals.{base_judged, literal_in}
@@ -197,6 +198,7 @@ put x t (term.Truth b) = term.Truth b
 put x t (term.Variable y) = if same_name x y then t else term.Variable y
 put x t (prefix_of op a) = term.Prefix op (put x t a)
 put x t (infix_of op a b) = term.Infix op (put x t a) (put x t b)
+put x t u = substituted x t u
 
 put_is : (x : Name) (t u : Term) → substituted x t u ≡ put x t u
 unfolding hidden-the_row-Term-0 hidden
@@ -205,6 +207,7 @@ put_is x t (term.Truth b) = terms.fold-Truth (substituted_step x t) b
 put_is x t (term.Variable y) = terms.fold-Variable (substituted_step x t) y
 put_is x t (prefix_of op a) = terms.fold-Prefix (substituted_step x t) op a ∙ ap (term.Prefix op) (put_is x t a)
 put_is x t (infix_of op a b) = terms.fold-Infix (substituted_step x t) op a b ∙ ap₂ (term.Infix op) (put_is x t a) (put_is x t b)
+put_is x t _ = refl
 
 abbrev with_value_now : Name → Term → Claim → Claim
 with_value_now x t c = record c { hyps = map (put x t) c.hyps; goals = map (put x t) c.goals }

@@ -25,7 +25,8 @@ use Rattle.spx_term.specs.declared.term.Term.TheVariants as term
 use Rattle.spx_term.specs.declared.term.TermOp.TheVariants as sign
 use Rattle.spx_term.specs.Conjuncts.{conjuncts}
 use Rattle.spx_term.specs.Equality.{same_by, same_term}
-use Rattle.spx_term.specs.Steps.{Tree, Cut, Assume, Assign, Split, Claim, assume_all, check, claims_of, same_name, tidy}
+use Rattle.spx_term.specs.Steps.{Tree, Cut, Assume, Assign, Split, Claim, assume_all, check, claims_of, tidy}
+use Rattle.spx_term.specs.Equality.{same_name}
 use Rattle.spx_formula.specs.Terms.{entry, entry_term, first_name, last_name, now, now_term, term_of, term_with}
 use Rattle.spx_paths.specs.Walks.{assigned, cuts, ending, enter_range, high_term, low_term, range_goal, start_tree, trees_of, walk}
 use Rattle.spx_paths.specs.Conditions.{conditions_of, numbered}

@@ -70,3 +70,9 @@ mod Doubling
 mod DoublingText
 mod BadRuns
 mod Weakened
+mod CompositeFolding
+mod CompositeMeaning
+mod CompositeValues
+mod CompositeSorts
+mod CompositePlain
+mod CompositeValid

@@ -6,7 +6,7 @@ use Rattle.std.proofs.lemmas.List.Elements.{All-cons, All-nil, All-head}
 use Rattle.spx_core.specs.declared.entity.TheConstants.{INTEGER_FIRST, INTEGER_LAST}
 use Rattle.spx_core.specs.Commands.{commands}
 use Rattle.spx_term.specs.declared.term.Sort.{Sort}
-use Rattle.spx_term.specs.declared.term.Sort.TheVariants.{Integer, Boolean}
+use Rattle.spx_term.specs.declared.term.Sort.TheVariants.{Integer, Boolean, Composite}
 use Rattle.spx_term.specs.declared.term.Symbol.TheVariants as symbol
 use Rattle.spx_term.specs.declared.term.TermOp.{TermOp}
 use Rattle.spx_term.specs.declared.term.TermOp.TheVariants as sign
@@ -15,9 +15,11 @@ use Rattle.spx_term.specs.declared.term.Term.TheVariants as term
 use Rattle.spx_term.specs.declared.value.Value.{Value}
 use Rattle.spx_term.specs.declared.value.Value.TheVariants.{Number, Truth}
 use Rattle.spx_term.specs.Goals.{goal_of}
-use Rattle.spx_term.specs.Meaning.{Valuation, HasSort, Holds, value_of, value_of_op, value_step}
+use Rattle.spx_examples.proofs.Sequents.{false_is_composite}
+use Rattle.spx_term.specs.Meaning.{Valuation, HasSort, Holds, value_of, value_of_op}
 use Rattle.spx_term.specs.Steps.{Cut}
-use Rattle.spx_term.proofs.Terms as terms
+use Rattle.spx_term.proofs.Terms.{value-Infix, value-Number, value-Variable}
+use Rattle.spx_formula.specs.Looks.{no_composites}
 use Rattle.spx_paths.specs.Walks.{ending, start_tree, walk}
 use Rattle.spx_paths.specs.Conditions.{conditions_of}
 use Rattle.spx_paths.specs.Fit.{Fit, HasValidConditions, IsValid}
@@ -47,40 +49,42 @@ conditions_are =
 abbrev of_sort : Sort → Value
 of_sort Integer = Number INTEGER_LAST
 of_sort Boolean = Truth false
+of_sort (Composite id) = Truth false
 
 abbrev all_last : Valuation
 all_last name = of_sort name.sort
 
-sorted : (s : Sort) → HasSort s (of_sort s)
+sorted : (s : Sort) → HasSort no_composites s (of_sort s)
 sorted Integer = tt
 sorted Boolean = tt
+sorted (Composite id) = false_is_composite id
 
-entry_value : value_of all_last entry_x ≡ Number INTEGER_LAST
-entry_value = terms.fold-Variable (value_step all_last) (record { symbol = symbol.Entry 0; sort = Integer })
+entry_value : value_of no_composites all_last entry_x ≡ Number INTEGER_LAST
+entry_value = value-Variable no_composites all_last (record { symbol = symbol.Entry 0; sort = Integer })
 
-value_before : (o : TermOp) (a : Term) (n : ℤ) (y : Value) → value_of all_last a ≡ y → value_of all_last (term.Infix o a (term.Number n)) ≡ value_of_op o y (Number n)
-value_before o a n y is = terms.fold-Infix (value_step all_last) o a (term.Number n) ∙ ap₂ (value_of_op o) is (terms.fold-Number (value_step all_last) n)
+value_before : (o : TermOp) (a : Term) (n : ℤ) (y : Value) → value_of no_composites all_last a ≡ y → value_of no_composites all_last (term.Infix o a (term.Number n)) ≡ value_of_op o y (Number n)
+value_before o a n y is = value-Infix no_composites all_last o a (term.Number n) ∙ ap₂ (value_of_op o) is (value-Number no_composites all_last n)
 
-next_value : value_of all_last next_x ≡ Number (pos 2147483648)
+next_value : value_of no_composites all_last next_x ≡ Number (pos 2147483648)
 unfolding value_of_op
 next_value = value_before sign.Add entry_x (pos 1) (Number INTEGER_LAST) entry_value
 
-first_holds : Holds (at_least_first entry_x) all_last
+first_holds : Holds no_composites (at_least_first entry_x) all_last
 unfolding value_of_op
 first_holds = value_before sign.GreaterOrEqual entry_x INTEGER_FIRST (Number INTEGER_LAST) entry_value
 
-last_holds : Holds (at_most_last entry_x) all_last
+last_holds : Holds no_composites (at_most_last entry_x) all_last
 unfolding value_of_op
 last_holds = value_before sign.LessOrEqual entry_x INTEGER_LAST (Number INTEGER_LAST) entry_value
 
-goals_fail : value_of all_last (goal_of sum_goals) ≡ Truth false
+goals_fail : value_of no_composites all_last (goal_of sum_goals) ≡ Truth false
 unfolding value_of_op
 goals_fail =
-    terms.fold-Infix (value_step all_last) sign.And (at_least_first next_x) (at_most_last next_x)
+    value-Infix no_composites all_last sign.And (at_least_first next_x) (at_most_last next_x)
     ∙ ap₂ (value_of_op sign.And) (value_before sign.GreaterOrEqual next_x INTEGER_FIRST (Number (pos 2147483648)) next_value) (value_before sign.LessOrEqual next_x INTEGER_LAST (Number (pos 2147483648)) next_value)
 
 abbrev HoldsHere : Term → Type 0
-HoldsHere hyp = Holds hyp all_last
+HoldsHere hyp = Holds no_composites hyp all_last
 
 pub not_valid : ¬ IsValid overflow_without_pre
 not_valid valid =

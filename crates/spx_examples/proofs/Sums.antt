@@ -20,7 +20,8 @@ use Rattle.spx_term.specs.declared.term.Term.{Term}
 use Rattle.spx_term.specs.declared.term.Term.TheVariants as term
 use Rattle.spx_term.specs.Equality.{same_by}
 use Rattle.spx_term.specs.Plain.{is_among}
-use Rattle.spx_term.specs.Steps.{Tree, Cut, Assign, Claim, assume_all, check, same_name, substituted_step, substituted, claims_of, with_new, without_doubles, tidy}
+use Rattle.spx_term.specs.Steps.{Tree, Cut, Assign, Claim, assume_all, check, substituted_step, substituted, claims_of, with_new, without_doubles, tidy}
+use Rattle.spx_term.specs.Equality.{same_name}
 use Rattle.spx_term.proofs.Terms as terms
 use Rattle.spx_meaning.specs.Evaluation.{term_op}
 use Rattle.spx_meaning.specs.Literals.{base_judged, literal, literal_in}

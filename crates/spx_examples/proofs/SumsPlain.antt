@@ -16,7 +16,7 @@ use Rattle.spx_term.specs.declared.term.Term.TheVariants.{outs-Infix}
 use Rattle.spx_term.specs.Equality.{same_term}
 use Rattle.spx_term.specs.Folding.{before_literal, of_itself, simplified, folded_step, folded}
 use Rattle.spx_term.specs.Goals.{goal_of}
-use Rattle.spx_term.specs.declared.value.Value.TheVariants as value
+use Rattle.spx_term.specs.declared.value.Literal.TheVariants as literal
 use Rattle.spx_term.specs.Conjuncts.{conjuncts}
 use Rattle.spx_term.specs.Intervals.{unbounded, point, meet, allowed, bounds_in, bounds, bounded, structural, interval, interval-Number, interval-Variable, interval-Infix}
 use Rattle.spx_term.specs.Plain.{closes, settled, is_among, joined, is_plain, is_plain-Infix, Plain}
@@ -111,7 +111,7 @@ from_to m n = record { low = Some m; high = Some n }
 -- below n the highest number is this, and one more lies in the type
 pub record Fits (n high : ℤ) : Type 0 where
   pub below : narrowed n unbounded true ≡ from_to INTEGER_FIRST high
-  pub sums : structural sign.Add (from_to INTEGER_FIRST high) (point (pos 1)) (Some (value.Number (pos 1))) ≡ from_to (INTEGER_FIRST +ℤ pos 1) (high +ℤ pos 1)
+  pub sums : structural sign.Add (from_to INTEGER_FIRST high) (point (pos 1)) (Some (literal.Number (pos 1))) ≡ from_to (INTEGER_FIRST +ℤ pos 1) (high +ℤ pos 1)
   pub in_type : int_le (high +ℤ pos 1) INTEGER_LAST ≡ true
 
 module _ (n high : ℤ) (fit : Fits n high) where
@@ -132,7 +132,7 @@ module _ (n high : ℤ) (fit : Fits n high) where
   interval_next : interval (known_below n) next_x ≡ from_to (INTEGER_FIRST +ℤ pos 1) (high +ℤ pos 1)
   interval_next =
       interval-Infix (known_below n) sign.Add entry_x (term.Number (pos 1))
-      ∙ ap₂ (λ i j. bounded (structural sign.Add i j (Some (value.Number (pos 1)))) (known_below n) next_x) interval_entry (interval_number (pos 1))
+      ∙ ap₂ (λ i j. bounded (structural sign.Add i j (Some (literal.Number (pos 1)))) (known_below n) next_x) interval_entry (interval_number (pos 1))
       ∙ ap (λ i. bounded i (known_below n) next_x) fit.sums
       ∙ bounded_is (from_to (INTEGER_FIRST +ℤ pos 1) (high +ℤ pos 1)) next_x false (not_same entry_x next_x (no_infix (record { symbol = symbol.Entry 0; sort = Integer }) sign.Add entry_x (term.Number (pos 1))))
 

@@ -41,8 +41,9 @@ use Rattle.spx_term.specs.declared.term.Term.TheVariants as term
 use Rattle.spx_term.specs.declared.term.TermOp.TheVariants.{GreaterOrEqual, LessOrEqual}
 use Rattle.spx_term.specs.declared.value.Value.{Value}
 use Rattle.spx_term.specs.declared.value.Value.TheVariants as value
-use Rattle.spx_term.specs.Meaning.{as_number, as_truth, same_value, value_of, value_of_op, value_of_prefix, value_step, Holds, Valid, Valuation}
-use Rattle.spx_term.proofs.Terms as terms
+use Rattle.spx_term.specs.Meaning.{as_number, as_truth, same_value, value_of, value_of_op, value_of_prefix, Holds, Valid, Valuation}
+use Rattle.spx_term.proofs.Terms.{value-Infix, value-Number, value-Truth, value-Variable}
+use Rattle.spx_formula.specs.Looks.{no_composites}
 use Rattle.spx_meaning.specs.declared.bad.BadKind.TheVariants.{Overflow, Pre, Unset}
 use Rattle.spx_meaning.specs.declared.bad.BadKind.TheVariants as bad
 use Rattle.spx_meaning.specs.Annotations.{truth}
@@ -785,19 +786,19 @@ one_bound settled p sub law n m s t s' t' from_s from_t first second =
 -- ---- sequents with large numbers
 
 -- X is the number that its name has
-x_number : (v : Valuation) → as_number (value_of v entry_x) ≡ as_number (v (record { symbol = symbol.Entry 0; sort = Integer }))
-x_number v = ap as_number (terms.fold-Variable (value_step v) (record { symbol = symbol.Entry 0; sort = Integer }))
+x_number : (v : Valuation) → as_number (value_of no_composites v entry_x) ≡ as_number (v (record { symbol = symbol.Entry 0; sort = Integer }))
+x_number v = ap as_number (value-Variable no_composites v (record { symbol = symbol.Entry 0; sort = Integer }))
 
-x_fits : (v : Valuation) → NumbersFit v → IsTrue (fits (as_number (value_of v entry_x)))
+x_fits : (v : Valuation) → NumbersFit v → IsTrue (fits (as_number (value_of no_composites v entry_x)))
 x_fits v fit = subst (λ n. IsTrue (fits n)) (sym (x_number v)) (fit (record { symbol = symbol.Entry 0; sort = Integer }))
 
-at_least_is : (v : Valuation) (n : ℤ) → value_of v (x_at_least n) ≡ value.Truth (int_le n (as_number (value_of v entry_x)))
+at_least_is : (v : Valuation) (n : ℤ) → value_of no_composites v (x_at_least n) ≡ value.Truth (int_le n (as_number (value_of no_composites v entry_x)))
 unfolding value_of_op
-at_least_is v n = terms.fold-Infix (value_step v) GreaterOrEqual entry_x (term.Number n) ∙ ap (λ k. value.Truth (int_le (as_number k) (as_number (value_of v entry_x)))) (terms.fold-Number (value_step v) n)
+at_least_is v n = value-Infix no_composites v GreaterOrEqual entry_x (term.Number n) ∙ ap (λ k. value.Truth (int_le (as_number k) (as_number (value_of no_composites v entry_x)))) (value-Number no_composites v n)
 
-at_most_is : (v : Valuation) (n : ℤ) → value_of v (x_at_most n) ≡ value.Truth (int_le (as_number (value_of v entry_x)) n)
+at_most_is : (v : Valuation) (n : ℤ) → value_of no_composites v (x_at_most n) ≡ value.Truth (int_le (as_number (value_of no_composites v entry_x)) n)
 unfolding value_of_op
-at_most_is v n = terms.fold-Infix (value_step v) LessOrEqual entry_x (term.Number n) ∙ ap (λ k. value.Truth (int_le (as_number (value_of v entry_x)) (as_number k))) (terms.fold-Number (value_step v) n)
+at_most_is v n = value-Infix no_composites v LessOrEqual entry_x (term.Number n) ∙ ap (λ k. value.Truth (int_le (as_number (value_of no_composites v entry_x)) (as_number k))) (value-Number no_composites v n)
 
 -- what fits lies from -2 ** 127 to 2 ** 127 - 1
 fits_below : (m : ℤ) → IsTrue (fits m) → int_le m (pos 170141183460469231731687303715884105727) ≡ true
@@ -814,52 +815,52 @@ fits_not_past : (m : ℤ) → IsTrue (fits m) → int_le (pos 170141183460469231
 fits_not_past m h = let most = fits_below m h in grind (arith, ints)
 
 pub most_in_bits : ValidInBits [] up_to_greatest
-most_in_bits v respects fit known = at_most_is v (pos 170141183460469231731687303715884105727) ∙ ap value.Truth (fits_below (as_number (value_of v entry_x)) (x_fits v fit))
+most_in_bits v respects fit known = at_most_is v (pos 170141183460469231731687303715884105727) ∙ ap value.Truth (fits_below (as_number (value_of no_composites v entry_x)) (x_fits v fit))
 
 pub least_in_bits : ValidInBits [] from_least
-least_in_bits v respects fit known = at_least_is v (negsuc 170141183460469231731687303715884105727) ∙ ap value.Truth (fits_above (as_number (value_of v entry_x)) (x_fits v fit))
+least_in_bits v respects fit known = at_least_is v (negsuc 170141183460469231731687303715884105727) ∙ ap value.Truth (fits_above (as_number (value_of no_composites v entry_x)) (x_fits v fit))
 
 pub none_in_bits : ValidInBits (past_greatest ∷ []) (term.Truth false)
 none_in_bits v respects fit known =
-    let past = sym (at_least_is v (pos 170141183460469231731687303715884105728)) ∙ All-head (λ hyp. Holds hyp v) past_greatest [] known in
-    let not_past = fits_not_past (as_number (value_of v entry_x)) (x_fits v fit) in
+    let past = sym (at_least_is v (pos 170141183460469231731687303715884105728)) ∙ All-head (λ hyp. Holds no_composites hyp v) past_greatest [] known in
+    let not_past = fits_not_past (as_number (value_of no_composites v entry_x)) (x_fits v fit) in
     absurd (let e : value.Truth false ≡ value.Truth true = sym (ap value.Truth not_past) ∙ past in cc)
 
 -- what X with this value refutes
-refuted : (m : ℤ) (goal : Term) → value_of (where_x_is m (pos 0)) goal ≡ value.Truth false → ¬ Valid [] goal
+refuted : (m : ℤ) (goal : Term) → value_of no_composites (where_x_is m (pos 0)) goal ≡ value.Truth false → ¬ Valid no_composites [] goal
 refuted m goal fails valid =
-    absurd (let e : value.Truth false ≡ value.Truth true = sym fails ∙ valid (where_x_is m (pos 0)) (sorted m (pos 0)) (All-nil (λ hyp. Holds hyp (where_x_is m (pos 0)))) in cc)
+    absurd (let e : value.Truth false ≡ value.Truth true = sym fails ∙ valid (where_x_is m (pos 0)) (sorted m (pos 0)) (All-nil (λ hyp. Holds no_composites hyp (where_x_is m (pos 0)))) in cc)
 
-x_is : (m : ℤ) → as_number (value_of (where_x_is m (pos 0)) entry_x) ≡ m
+x_is : (m : ℤ) → as_number (value_of no_composites (where_x_is m (pos 0)) entry_x) ≡ m
 x_is m = x_number (where_x_is m (pos 0))
 
-pub no_most : (n : ℤ) → ¬ Valid [] (x_at_most n)
+pub no_most : (n : ℤ) → ¬ Valid no_composites [] (x_at_most n)
 no_most n =
     refuted (n +ℤ pos 1) (x_at_most n)
     (at_most_is (where_x_is (n +ℤ pos 1) (pos 0)) n ∙ ap (λ m. value.Truth (int_le m n)) (x_is (n +ℤ pos 1)) ∙ ap value.Truth (let e : int_le (n +ℤ pos 1) n ≡ false = grind (arith, ints) in e))
 
-pub no_least : (n : ℤ) → ¬ Valid [] (x_at_least n)
+pub no_least : (n : ℤ) → ¬ Valid no_composites [] (x_at_least n)
 no_least n =
     refuted (n -ℤ pos 1) (x_at_least n)
     (at_least_is (where_x_is (n -ℤ pos 1) (pos 0)) n ∙ ap (λ m. value.Truth (int_le n m)) (x_is (n -ℤ pos 1)) ∙ ap value.Truth (let e : int_le n (n -ℤ pos 1) ≡ false = grind (arith, ints) in e))
 
-pub most_not_valid : ¬ Valid [] up_to_greatest
+pub most_not_valid : ¬ Valid no_composites [] up_to_greatest
 most_not_valid = no_most (pos 170141183460469231731687303715884105727)
 
-pub least_not_valid : ¬ Valid [] from_least
+pub least_not_valid : ¬ Valid no_composites [] from_least
 least_not_valid = no_least (negsuc 170141183460469231731687303715884105727)
 
 -- X is 2 ** 127
 abbrev at_limit : Valuation
 at_limit = where_x_is (pos 170141183460469231731687303715884105728) (pos 0)
 
-limit_is_past : Holds past_greatest at_limit
+limit_is_past : Holds no_composites past_greatest at_limit
 limit_is_past = at_least_is at_limit (pos 170141183460469231731687303715884105728) ∙ ap (λ m. value.Truth (int_le (pos 170141183460469231731687303715884105728) m)) (x_is (pos 170141183460469231731687303715884105728))
 
-pub some_past : ¬ Valid (past_greatest ∷ []) (term.Truth false)
+pub some_past : ¬ Valid no_composites (past_greatest ∷ []) (term.Truth false)
 some_past valid =
-    let known = All-cons (λ hyp. Holds hyp at_limit) past_greatest [] limit_is_past (All-nil (λ hyp. Holds hyp at_limit)) in
-    absurd (let e : value.Truth false ≡ value.Truth true = sym (terms.fold-Truth (value_step at_limit) false) ∙ valid at_limit (sorted (pos 170141183460469231731687303715884105728) (pos 0)) known in cc)
+    let known = All-cons (λ hyp. Holds no_composites hyp at_limit) past_greatest [] limit_is_past (All-nil (λ hyp. Holds no_composites hyp at_limit)) in
+    absurd (let e : value.Truth false ≡ value.Truth true = sym (value-Truth no_composites at_limit false) ∙ valid at_limit (sorted (pos 170141183460469231731687303715884105728) (pos 0)) known in cc)
 
 -- ---- further turns
 

@@ -29,3 +29,4 @@ pub mod Doubling
 pub mod DoublingText
 pub mod BadPrograms
 pub mod Weakenings
+pub mod CompositeExamples

@@ -1,7 +1,7 @@
 -- Sequents as terms, each shown as a formula, and values for their names.
 use Rattle.std.specs.Prelude.{ℕ, zero, ℤ, pos, false, List, [], ◌∷◌}
 use Rattle.spx_term.specs.declared.term.Sort.{Sort}
-use Rattle.spx_term.specs.declared.term.Sort.TheVariants.{Integer, Boolean}
+use Rattle.spx_term.specs.declared.term.Sort.TheVariants.{Integer, Boolean, Composite}
 use Rattle.spx_term.specs.declared.term.Symbol.{Symbol}
 use Rattle.spx_term.specs.declared.term.Symbol.TheVariants as symbol
 use Rattle.spx_term.specs.declared.term.TermOp.TheVariants as sign
@@ -71,10 +71,11 @@ below_next = term.Infix sign.Less entry_x next_x
 
 -- ---- values
 
--- a number, or false where a truth value is asked for
+-- a number, or false where none is asked for
 abbrev pub of_sort : Sort → ℤ → Value
 of_sort Integer n = value.Number n
 of_sort Boolean n = value.Truth false
+of_sort (Composite id) n = value.Truth false
 
 -- m for X~, n for every other
 abbrev pub for_x : ℤ → ℤ → Symbol → ℤ

@@ -33,6 +33,7 @@ use Rattle.spx_term.specs.declared.term.Term.TheVariants as term
 use Rattle.spx_term.specs.declared.term.TermOp.TheVariants.{GreaterOrEqual}
 use Rattle.spx_term.specs.declared.value.Value.{Value}
 use Rattle.spx_term.specs.Meaning.{as_number, Holds, Respects, Valuation}
+use Rattle.spx_formula.specs.Looks.{no_composites}
 use Rattle.spx_meaning.specs.Bits.{computed, is_too_large}
 use Rattle.spx_meaning.specs.Frames.{Frame, around}
 use Rattle.spx_meaning.specs.Laws.{Agree, Start}
@@ -289,7 +290,7 @@ NumbersFit v = (name : Name) → IsTrue (fits (as_number (v name)))
 
 -- weaker than `Valid`: only valuations are asked whose numbers 128 bits hold
 abbrev pub ValidInBits : List Term → Term → Type 0
-ValidInBits hyps goal = (v : Valuation) → Respects v → NumbersFit v → All (λ hyp. Holds hyp v) hyps → Holds goal v
+ValidInBits hyps goal = (v : Valuation) → Respects no_composites v → NumbersFit v → All (λ hyp. Holds no_composites hyp v) hyps → Holds no_composites goal v
 
 -- `X~ >= n`
 abbrev pub x_at_least : ℤ → Term

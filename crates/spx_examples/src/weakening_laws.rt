@@ -11,6 +11,7 @@ ghost use Rattle.spx_term.specs.declared.term.Term.TheVariants as term;
 ghost use Rattle.spx_term.specs.declared.value.Value.{Value};
 ghost use Rattle.spx_term.specs.declared.value.Value.TheVariants as value;
 ghost use Rattle.spx_term.specs.Meaning.{Valid};
+ghost use Rattle.spx_formula.specs.Looks.{no_composites};
 ghost use Rattle.spx_meaning.specs.declared.bad.BadKind.TheVariants.{Overflow, Pre, Unset};
 ghost use Rattle.spx_meaning.specs.Bits.{is_too_large};
 ghost use Rattle.spx_meaning.specs.Frames.{Frame, around};
@@ -183,11 +184,11 @@ pub fn numbers_past_128_bits_count()
     ensures most_in_bits { ValidInBits [] up_to_greatest }
     ensures least_in_bits { ValidInBits [] from_least }
     ensures none_in_bits { ValidInBits (past_greatest ∷ []) (term.Truth false) }
-    ensures most { ¬ Valid [] up_to_greatest }
-    ensures least { ¬ Valid [] from_least }
-    ensures some { ¬ Valid (past_greatest ∷ []) (term.Truth false) }
-    ensures no_most { (n : ℤ) → ¬ Valid [] (x_at_most n) }
-    ensures no_least { (n : ℤ) → ¬ Valid [] (x_at_least n) }
+    ensures most { ¬ Valid no_composites [] up_to_greatest }
+    ensures least { ¬ Valid no_composites [] from_least }
+    ensures some { ¬ Valid no_composites (past_greatest ∷ []) (term.Truth false) }
+    ensures no_most { (n : ℤ) → ¬ Valid no_composites [] (x_at_most n) }
+    ensures no_least { (n : ℤ) → ¬ Valid no_composites [] (x_at_least n) }
 {}
 
 /// `X := Y; Y := Z`: to the first statement comes Y alone. Where these are the body of a loop, Z comes to it too, by a further turn, and nothing else does.

@@ -7,12 +7,13 @@ use Rattle.std.proofs.lemmas.Grind.{flat_map-append}
 use Rattle.spx_core.specs.declared.entity.SubId.{SubId}
 use Rattle.spx_core.specs.declared.program.Program.{Program}
 use Rattle.spx_core.specs.declared.subprogram.Sub.{Sub}
+use Rattle.spx_term.specs.declared.printing.Names.{Names}
 use Rattle.spx_term.specs.declared.term.Term.{Term}
 use Rattle.spx_findings.specs.Listing.{conditions_text, listed, listed_at, term_line, term_lines}
 use Rattle.spx_findings.proofs.FindingLaws.{subs_in}
 
 -- ---- terms
-module _ (declared : List (List ℕ)) (letter : List ℕ) where
+module _ (declared : Names) (letter : List ℕ) where
   one_line_more : (n : ℕ) (ts : List Term) (t : Term) → term_lines declared letter n (ts ++ t ∷ []) ≡ term_lines declared letter n ts ++ term_line declared letter (length ts + n) t
   one_line_more n [] t = append-nil (term_line declared letter n t) ∙ ap (λ k. term_line declared letter k t) (sym (zero-add n))
   one_line_more n (u ∷ ts) t =

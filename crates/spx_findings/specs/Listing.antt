@@ -7,6 +7,7 @@ use Rattle.spx_core.specs.declared.subprogram.Sub.{Sub}
 use Rattle.spx_core.specs.Bodies.{bodies_of}
 use Rattle.spx_term.specs.declared.condition.Condition.{Condition}
 use Rattle.spx_term.specs.declared.term.Term.{Term}
+use Rattle.spx_term.specs.declared.printing.Names.{Names}
 use Rattle.spx_term.specs.Printing.{text_of}
 use Rattle.spx_paths.specs.Conditions.{conditions_of}
 use Rattle.spx_findings.specs.Findings.{kind_text}
@@ -16,12 +17,16 @@ use Rattle.spx_report.specs.Report.{spot_text}
 abbrev pub declared_names : Program → List (List ℕ)
 declared_names p = map (λ (var : Var). var.name) p.vars
 
+-- the names that its terms are printed with; it has no composite type
+abbrev pub names_in : Program → Names
+names_in p = record { variables = declared_names p; types = [] }
+
 -- `H1 TERM`, or with another letter and number
-unfoldable pub term_line : List (List ℕ) → List ℕ → ℕ → Term → List ℕ
+unfoldable pub term_line : Names → List ℕ → ℕ → Term → List ℕ
 term_line declared letter n t = letter ++ (decimal n ++ (codes " " ++ (text_of declared t ++ codes "\n")))
 
 -- a line for each term, numbered from this number on
-abbrev pub term_lines : List (List ℕ) → List ℕ → ℕ → List Term → List ℕ
+abbrev pub term_lines : Names → List ℕ → ℕ → List Term → List ℕ
 term_lines declared letter n [] = []
 term_lines declared letter n (t ∷ ts) = term_line declared letter n t ++ term_lines declared letter (suc n) ts
 
@@ -30,16 +35,16 @@ unfoldable pub header_line : List (List ℕ) → Condition → List ℕ
 header_line names c = c.name ++ (codes " " ++ (kind_text c.kind ++ (codes " " ++ (spot_text names c.place ++ codes "\n"))))
 
 -- a condition: its header, its hypotheses, its goals
-unfoldable pub condition_lines : List (List ℕ) → List (List ℕ) → Condition → List ℕ
+unfoldable pub condition_lines : List (List ℕ) → Names → Condition → List ℕ
 condition_lines names declared c = header_line names c ++ (term_lines declared (codes "H") 1 c.hyps ++ term_lines declared (codes "G") 1 c.goals)
 
 -- these conditions, one after another
-abbrev pub lines_of_conditions : List (List ℕ) → List (List ℕ) → List Condition → List ℕ
+abbrev pub lines_of_conditions : List (List ℕ) → Names → List Condition → List ℕ
 lines_of_conditions names declared conditions = flat_map (condition_lines names declared) conditions
 
 -- the conditions of a subprogram, in the order of their names
 abbrev pub listed : List (List ℕ) → Program → Sub → List ℕ
-listed names p sub = lines_of_conditions names (declared_names p) (conditions_of p sub)
+listed names p sub = lines_of_conditions names (names_in p) (conditions_of p sub)
 
 -- the conditions of a program, whose files have these names
 unfoldable pub conditions_text : Program → List (List ℕ) → List ℕ

@@ -10,7 +10,7 @@ use crate::tally::kind_text;
 use spx_core::{Program, SubId};
 use spx_num::decimal;
 use spx_report::{FindFault, LimitName, spot_text};
-use spx_term::{Condition, Term, print};
+use spx_term::{Condition, Names, Term, print};
 use spx_text::Text;
 use spx_vcg::{VcFault, conditions};
 use sqlite_items::Items;
@@ -27,12 +27,22 @@ fn declared_names(alloc: Global, program: &Program) -> Result<Items<Text>, Alloc
     Ok(declared)
 }
 
+/// The names that the terms of a program are printed with.
+fn names_in(alloc: Global, program: &Program) -> Result<Names, AllocError>
+    ensures { IfOk result (λ names. names ≡ spec.names_in program.now) }
+{
+    Ok(Names {
+        variables: declared_names(alloc, program)?,
+        types: Items::new(alloc),
+    })
+}
+
 /// `H1 TERM`, or with another letter and number.
 #[tactic(auto, using(spx_report::proofs::Texts::texts), unfolding(crate::specs::Listing::term_line))]
 fn put_term(
     alloc: Global,
     out: &mut Vec<u8>,
-    declared: &[Text],
+    declared: &Names,
     letter: &[u8],
     number: usize,
     term: &Term,
@@ -50,7 +60,7 @@ fn put_term(
 fn put_terms(
     alloc: Global,
     out: &mut Vec<u8>,
-    declared: &[Text],
+    declared: &Names,
     letter: &[u8],
     terms: &[Term],
 ) -> Result<(), AllocError>
@@ -86,7 +96,7 @@ fn put_condition(
     alloc: Global,
     out: &mut Vec<u8>,
     files: &[String],
-    declared: &[Text],
+    declared: &Names,
     condition: &Condition,
 ) -> Result<(), AllocError>
     ensures { OnOk result (out.new.items ≡ out.old.items ++ spec.condition_lines (names files.now) declared.now condition.now) }
@@ -101,7 +111,7 @@ fn put_conditions(
     alloc: Global,
     out: &mut Vec<u8>,
     files: &[String],
-    declared: &[Text],
+    declared: &Names,
     conditions: &[Condition],
 ) -> Result<(), AllocError>
     ensures { OnOk result (out.new.items ≡ out.old.items ++ spec.lines_of_conditions (names files.now) declared.now conditions.now) }
@@ -119,10 +129,10 @@ fn put_sub(
     id: SubId,
     out: &mut Vec<u8>,
     files: &[String],
-    declared: &[Text],
+    declared: &Names,
 ) -> Result<(), FindFault>
     requires id { id.0 < length program.now.subs }
-    requires declared { declared.now ≡ spec.declared_names program.now }
+    requires declared { declared.now ≡ spec.names_in program.now }
     ensures text { (sub : Sub) → slice_get program.now.subs id.0 ≡ Some sub → OnOk result (out.new.items ≡ out.old.items ++ spec.listed (names files.now) program.now sub) }
     ensures few { (sub : Sub) → slice_get program.now.subs id.0 ≡ Some sub → OnOk result (limit_of program.now sub ≡ None) }
     ensures limit { (sub : Sub) → slice_get program.now.subs id.0 ≡ Some sub → IfErr result (IsFaultOf (limit_of program.now sub)) }
@@ -145,9 +155,9 @@ fn put_body(
     id: SubId,
     out: &mut Vec<u8>,
     files: &[String],
-    declared: &[Text],
+    declared: &Names,
 ) -> Result<(), FindFault>
-    requires { declared.now ≡ spec.declared_names program.now }
+    requires { declared.now ≡ spec.names_in program.now }
     ensures text { OnOk result (out.new.items ≡ out.old.items ++ spec.listed_at (names files.now) program.now (slice_get program.now.subs id.0)) }
     ensures few { OnOk result (limit_at program.now (slice_get program.now.subs id.0) ≡ None) }
     ensures limit { IfErr result (IsFaultOf (limit_at program.now (slice_get program.now.subs id.0))) }
@@ -169,10 +179,10 @@ pub fn conditions_text(
     // The limit is the first that is passed, in the order of the bodies.
     ensures limit { IfErr result (IsFaultOf (first_limit program.now)) }
 {
-    let declared = declared_names(alloc, program)?;
+    let declared = names_in(alloc, program)?;
     let mut out = Vec::new(alloc);
     for id in program.bodies.as_slice() {
-        put_body(alloc, program, *id, &mut out, files, declared.as_slice())?;
+        put_body(alloc, program, *id, &mut out, files, &declared)?;
     }
     Ok(out)
 }

@@ -1,3 +1,4 @@
+pub mod Looks
 pub mod Terms
 pub mod EntryNames
 pub mod Functions

@@ -135,7 +135,7 @@ pub fn term_id(
     ensures { IfOk result (λ id. Adds terms.old terms.new id (meant program.now entered.now expr.now)) }
 {
     if let Some(value) = literal(expr) {
-        return terms.literal(value);
+        return terms.scalar(value);
     }
     match expr {
         CoreExpr::Number(value, _) => terms.make(Node::Number(*value)),

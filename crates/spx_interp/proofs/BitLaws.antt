@@ -1,7 +1,8 @@
 -- Values that 128 bits hold.
-use Rattle.std.proofs.Common.{◌≡◌, ℤ, pos, ◌+ℤ◌, ◌-ℤ◌, ◌*ℤ◌, Bool, true, false, not, ◌&&◌, ◌||◌, Some, None, refl}
+use Rattle.std.proofs.Common.{◌≡◌, ℤ, pos, ◌+ℤ◌, ◌-ℤ◌, ◌*ℤ◌, Bool, true, false, not, ◌&&◌, ◌||◌, Some, None, refl, ap, FitsSigned}
 use Rattle.std.specs.Prelude.{option_map, int_lt, int_le, if◌then◌else◌}
-use Rattle.spx_num.specs.Widths.{fits, fitting, fits_laws}
+use Rattle.std.specs.Int.{w128}
+use Rattle.spx_num.specs.Widths.{fits, fits-Decides, fitting, fits_laws}
 use Rattle.spx_num.specs.Exact.{absolute, modulus, or_zero, quotient, raised, remainder}
 use Rattle.spx_text.specs.declared.place.Place.{Place}
 use Rattle.spx_tree.specs.declared.expression.MemberOp.TheVariants as member_op
@@ -20,6 +21,10 @@ held_if n false = refl
 -- a number is held where it fits
 pub held_number : (n : ℤ) → held (Number n) ≡ option_map Number (fitting n)
 held_number n = held_if n (fits n)
+
+-- and is what it is
+pub held_fitting : (n : ℤ) → FitsSigned w128 n → held (Number n) ≡ Some (Number n)
+held_fitting n w = ap (λ b. if b then Some (Number n) else None) ((fits-Decides n).1 w)
 
 -- ---- the value of each operation
 

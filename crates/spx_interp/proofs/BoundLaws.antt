@@ -7,7 +7,7 @@ use Rattle.spx_num.specs.Widths.{fits, fits-Decides}
 use Rattle.spx_text.specs.declared.place.Place.{Place}
 use Rattle.spx_core.specs.declared.entity.Class.TheVariants.{Integer}
 use Rattle.spx_term.specs.declared.value.Value.{Value}
-use Rattle.spx_term.specs.declared.value.Value.TheVariants.{Number, Truth}
+use Rattle.spx_term.specs.declared.value.Value.TheVariants.{Number}
 use Rattle.spx_meaning.specs.declared.bad.BadKind.{BadKind}
 use Rattle.spx_meaning.specs.Stores.{is_within}
 use Rattle.spx_meaning.specs.Evaluation.{Gives, Fails}
@@ -28,10 +28,10 @@ outside first last n low high not = by_test (int_le first n && int_le n last) re
 
 pub bounded_is : (first last : ℤ) (kind : BadKind) (place : Place) (x : Value) → FitsSigned w128 first → FitsSigned w128 last
     → bounded first last kind place (held x) ≡ (if is_within Integer first last x then Gives x else Fails kind place)
-bounded_is first last kind place (Truth b) low high = refl
 bounded_is first last kind place (Number n) low high = by_test (fits n) refl
   where
     by_test : (b : Bool) → fits n ≡ b
         → bounded first last kind place (if b then Some (Number n) else None) ≡ (if is_within Integer first last (Number n) then Gives (Number n) else Fails kind place)
     by_test true is = refl
     by_test false is = rw (outside first last n low high is)
+bounded_is first last kind place _ low high = refl

@@ -7,15 +7,14 @@ ghost use Rattle.spx_interp.specs.Results.{frame_of};
 
 use crate::body::Body;
 use crate::evaluation::{first_in, last_in};
-use crate::numbers::as_truth;
 use crate::operations::{applied, mapped, member, signed};
 use crate::slots::look;
 use spx_core::{CoreExpr, Program, VarId, variable_of};
-use spx_meaning::{Value, first_value, type_of};
+use spx_meaning::{Scalar, first_value, type_of};
 use spx_static::literal;
 
 /// What a variable counts as. An unset one counts as the first value of its type.
-fn reading(program: &Program, store: &[Option<Value>], var: VarId) -> Value
+fn reading(program: &Program, store: &[Option<Scalar>], var: VarId) -> Scalar
     ensures { result ≡ reading program.now store.now var }
 {
     match look(store, var) {
@@ -25,23 +24,23 @@ fn reading(program: &Program, store: &[Option<Value>], var: VarId) -> Value
 }
 
 /// What denotes no variable counts as 0.
-fn reading_of(program: &Program, store: &[Option<Value>], var: Option<VarId>) -> Value
+fn reading_of(program: &Program, store: &[Option<Scalar>], var: Option<VarId>) -> Scalar
     ensures { result ≡ reading_of program.now store.now var }
 {
     match var {
         Some(var) => reading(program, store, var),
-        None => Value::Number(0),
+        None => Scalar::number(0),
     }
 }
 
 /// The value of an annotation, if 128 bits hold each number that is computed in it.
 #[cycle(computed)]
 #[tactic(auto, using(crate::proofs::BitLaws::operation_laws))]
-fn computed(body: &Body, store: &[Option<Value>], expr: &CoreExpr) -> Option<Value>
+fn computed(body: &Body, store: &[Option<Scalar>], expr: &CoreExpr) -> Option<Scalar>
     ensures { result ≡ computed (frame_of body.now) store.now expr.now }
 {
     match expr {
-        CoreExpr::Number(number, _) => Some(Value::Number(*number)),
+        CoreExpr::Number(number, _) => Some(Scalar::number(*number)),
         CoreExpr::Name(name) => match literal(expr) {
             Some(value) => Some(value),
             None => Some(reading_of(body.program, store, variable_of(name.entity))),
@@ -51,7 +50,7 @@ fn computed(body: &Body, store: &[Option<Value>], expr: &CoreExpr) -> Option<Val
         }
         CoreExpr::Attribute(_, _) => match literal(expr) {
             Some(value) => Some(value),
-            None => Some(Value::Number(0)),
+            None => Some(Scalar::number(0)),
         },
         CoreExpr::Applied(function, _, operand) => {
             let value = computed(body, store, operand.get())?;
@@ -82,9 +81,9 @@ fn computed(body: &Body, store: &[Option<Value>], expr: &CoreExpr) -> Option<Val
 }
 
 /// Whether an annotation is true, if 128 bits hold each number that is computed in it.
-pub(crate) fn truth(body: &Body, store: &[Option<Value>], annotation: &CoreExpr) -> Option<bool>
+pub(crate) fn truth(body: &Body, store: &[Option<Scalar>], annotation: &CoreExpr) -> Option<bool>
     ensures { result ≡ option_map as_truth (computed (frame_of body.now) store.now annotation.now) }
 {
     let value = computed(body, store, annotation)?;
-    Some(as_truth(value))
+    Some(value.as_truth())
 }

@@ -22,14 +22,14 @@ use crate::statements::{look_at, run_stmts};
 use crate::step::Step;
 use spx_core::laws::{names_are_scoped, rules_hold};
 use spx_core::{CorePredicate, Program, Sub, SubId, VarSet};
-use spx_meaning::{Bad, BadKind, Store, Value};
+use spx_meaning::{Bad, BadKind, Scalar, Store};
 use spx_num::TooWide;
 use std::alloc::Global;
 
 /// Looks at a precondition or a postcondition. None is true.
 fn look_at_predicate(
     body: &Body,
-    store: &[Option<Value>],
+    store: &[Option<Scalar>],
     kind: BadKind,
     predicate: &Option<CorePredicate>,
 ) -> Result<Step, TooWide>
@@ -48,7 +48,7 @@ fn look_at_predicate(
 }
 
 /// Whether each export among the formals is set.
-fn exports_set(sub: &Sub, exports: &VarSet, store: &[Option<Value>]) -> bool
+fn exports_set(sub: &Sub, exports: &VarSet, store: &[Option<Scalar>]) -> bool
     requires { AreExports sub.now exports.now }
     ensures { result ≡ exports_set sub.now store.now }
 {
@@ -61,7 +61,7 @@ fn exports_set(sub: &Sub, exports: &VarSet, store: &[Option<Value>]) -> bool
 }
 
 /// Looks at what must hold at the end: each export is set, and the postcondition is true.
-fn end_body(body: &Body, exports: &VarSet, store: &[Option<Value>]) -> Result<Step, TooWide>
+fn end_body(body: &Body, exports: &VarSet, store: &[Option<Scalar>]) -> Result<Step, TooWide>
     requires { AreExports body.now.sub.now exports.now }
     ensures { body_ended (frame_of body.now) store.now ≡ done result store.now }
 {
@@ -80,7 +80,7 @@ fn run_body(
     body: &Body,
     exports: &VarSet,
     turns: u64,
-    store: &mut [Option<Value>],
+    store: &mut [Option<Scalar>],
 ) -> Result<Step, TooWide>
     requires exports { AreExports body.now.sub.now exports.now }
     requires entry { store.old ≡ body.now.entry.now }
@@ -101,7 +101,7 @@ fn run_body(
 /// The values after a call, and how it ends.
 #[derive(Drop)]
 struct Run {
-    slots: Vec<Option<Value>>,
+    slots: Vec<Option<Scalar>>,
     step: Step,
 }
 

@@ -9,9 +9,8 @@ ghost use Rattle.spx_interp.specs.Results.{alternative_at, arm_at, frame_of, on_
 
 use crate::body::Body;
 use crate::evaluation::is_true;
-use crate::numbers::as_number;
 use spx_core::{CoreAlternative, CoreArm, CoreChoice, Span};
-use spx_meaning::{Bad, Value};
+use spx_meaning::{Bad, Scalar};
 use sqlite_items::{Boxed, Items};
 
 /// The values of a choice.
@@ -41,11 +40,11 @@ fn is_chosen(number: i128, choices: &[CoreChoice]) -> bool
 }
 
 /// Whether one of the choices has the value. `others` has every value.
-fn has_value(choices: &Option<Boxed<Items<CoreChoice>>>, value: Value) -> bool
+fn has_value(choices: &Option<Boxed<Items<CoreChoice>>>, value: Scalar) -> bool
     ensures { result ≡ has_value choices.now value }
 {
     match choices {
-        Some(choices) => is_chosen(as_number(value), choices.get().as_slice()),
+        Some(choices) => is_chosen(value.as_number(), choices.get().as_slice()),
         None => true,
     }
 }
@@ -54,7 +53,7 @@ fn has_value(choices: &Option<Boxed<Items<CoreChoice>>>, value: Value) -> bool
 pub(crate) fn first_arm(
     body: &Body,
     turns: u64,
-    store: &[Option<Value>],
+    store: &[Option<Scalar>],
     arms: &[CoreArm],
 ) -> Result<Option<usize>, Bad>
     ensures within { IfOk result (λ found. IfSome found (λ k. k < length arms.now)) }
@@ -71,7 +70,7 @@ pub(crate) fn first_arm(
 }
 
 /// The first alternative that has the value. The last one has all values that are left.
-pub(crate) fn alternative_for(alternatives: &[CoreAlternative], value: Value) -> usize
+pub(crate) fn alternative_for(alternatives: &[CoreAlternative], value: Scalar) -> usize
     requires { 0 < length alternatives.now }
     ensures within { result < length alternatives.now }
     ensures runs { (f : Frame) (n : ℕ) (s : Store) → ran_alternatives value f n s alternatives.now ≡ ran f n s (alternative_at alternatives.now result) }

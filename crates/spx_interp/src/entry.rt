@@ -5,7 +5,7 @@ ghost use Rattle.spx_interp.specs.Rooms.{VarsHaveRoom};
 
 use crate::slots::put;
 use spx_core::{Mode, Program, Sub, VarId, VarKind};
-use spx_meaning::{Store, Value, initial_value};
+use spx_meaning::{Scalar, Store, initial_value};
 use std::alloc::{AllocError, Global};
 
 /// `out` formals and what is declared in a body take nothing over from the caller.
@@ -32,7 +32,7 @@ fn starts_new(program: &Program, var: VarId) -> bool
 }
 
 /// Gives those of the variables that are new the values with which they are declared, and no others.
-fn clear(program: &Program, store: &mut [Option<Value>], vars: &[VarId])
+fn clear(program: &Program, store: &mut [Option<Scalar>], vars: &[VarId])
     requires { VarsHaveRoom (length store.old) vars.now }
     ensures { store.new ≡ cleared program.now store.old vars.now }
 {
@@ -52,7 +52,7 @@ pub(crate) fn entry_of(
     program: &Program,
     sub: &Sub,
     store: &Store,
-) -> Result<Vec<Option<Value>>, AllocError>
+) -> Result<Vec<Option<Scalar>>, AllocError>
     requires { VarsHaveRoom (length store.now) sub.now.vars }
     ensures values { IfOk result (λ entry. entry.items ≡ entry_of program.now sub.now store.now) }
     ensures size { IfOk result (λ entry. length entry.items ≡ length store.now) }

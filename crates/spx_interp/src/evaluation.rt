@@ -14,32 +14,32 @@ ghost use Rattle.spx_meaning.specs.Bits.{held};
 ghost use Rattle.spx_interp.specs.Results.{answered, bounded, frame_of, truth_answered};
 
 use crate::body::Body;
-use crate::numbers::{as_number, as_truth, modulus, remainder, same_value};
+use crate::numbers::{modulus, remainder};
 use crate::operations::{applied, member, moved, signed};
 use crate::slots::look;
 use spx_core::{BaseType, Class, CoreExpr, CoreFunction, Reference, Span, VarId, variable_of};
-use spx_meaning::{Bad, BadKind, Value, is_within};
+use spx_meaning::{Bad, BadKind, Scalar, is_within};
 use spx_static::{base_of, literal, subtype_of};
 use spx_text::Place;
 use spx_tree::{InfixOp, PrefixOp};
 use spx_types::application;
 
 /// The first value of the type that a name denotes.
-pub(crate) fn first_in(name: &Reference) -> Value
+pub(crate) fn first_in(name: &Reference) -> Scalar
     ensures { result ≡ first_in name.now }
 {
-    Value::Number(subtype_of(name.root.entity).first)
+    Scalar::number(subtype_of(name.root.entity).first)
 }
 
 /// Its last value.
-pub(crate) fn last_in(name: &Reference) -> Value
+pub(crate) fn last_in(name: &Reference) -> Scalar
     ensures { result ≡ last_in name.now }
 {
-    Value::Number(subtype_of(name.root.entity).last)
+    Scalar::number(subtype_of(name.root.entity).last)
 }
 
 /// The value, if it is a number between these. What 128 bits do not hold is not.
-fn bounded(first: i128, last: i128, bad: Bad, found: Option<Value>) -> Result<Value, Bad>
+fn bounded(first: i128, last: i128, bad: Bad, found: Option<Scalar>) -> Result<Scalar, Bad>
     ensures { answered result ≡ bounded first last bad.kind bad.place found }
 {
     match found {
@@ -55,14 +55,14 @@ fn bounded(first: i128, last: i128, bad: Bad, found: Option<Value>) -> Result<Va
 }
 
 /// The value that this is where 128 bits hold it, if it is a number between these.
-fn held_within(first: i128, last: i128, bad: Bad, found: Option<Value>) -> Result<Value, Bad>
+fn held_within(first: i128, last: i128, bad: Bad, found: Option<Scalar>) -> Result<Scalar, Bad>
     ensures { (x : Value) → found ≡ held x → answered result ≡ (if is_within Integer first last x then Gives x else Fails bad.kind bad.place) }
 {
     bounded(first, last, bad, found)
 }
 
 /// The value of an operation, if it lies in the range of the base type.
-fn in_base(base: BaseType, place: Place, found: Option<Value>) -> Result<Value, Bad>
+fn in_base(base: BaseType, place: Place, found: Option<Scalar>) -> Result<Scalar, Bad>
     ensures { (x : Value) → found ≡ held x → answered result ≡ in_base base place x }
 {
     let bad = Bad {
@@ -73,23 +73,23 @@ fn in_base(base: BaseType, place: Place, found: Option<Value>) -> Result<Value, 
 }
 
 /// The value of an operation, which 128 bits hold.
-fn exactly(found: Option<Value>) -> Result<Value, Bad>
+fn exactly(found: Option<Scalar>) -> Result<Scalar, Bad>
     requires { IsSome found }
     ensures { (x : Value) → found ≡ held x → answered result ≡ Gives x }
 {
     Ok(found.unwrap())
 }
 
-fn is_zero(divisor: Value) -> bool
+fn is_zero(divisor: Scalar) -> bool
     ensures { result ≡ same_value divisor (value.Number (pos 0)) }
 {
-    same_value(divisor, Value::Number(0))
+    divisor.is_same(Scalar::number(0))
 }
 
-fn is_negative(exponent: Value) -> bool
+fn is_negative(exponent: Scalar) -> bool
     ensures { result ≡ int_lt (as_number exponent) (pos 0) }
 {
-    as_number(exponent) < 0
+    exponent.as_number() < 0
 }
 
 /// The result of an operation of this base type, whose right operand is at the second place.
@@ -99,9 +99,9 @@ fn checked(
     base: BaseType,
     place: Place,
     right_place: Place,
-    left: Value,
-    right: Value,
-) -> Result<Value, Bad>
+    left: Scalar,
+    right: Scalar,
+) -> Result<Scalar, Bad>
     ensures { answered result ≡ checked op base place right_place left right }
 {
     let value = applied(op, left, right);
@@ -110,8 +110,8 @@ fn checked(
         InfixOp::Divide if is_zero(right) => division(place),
         InfixOp::Divide => in_base(base, place, value),
         InfixOp::Mod | InfixOp::Rem if is_zero(right) => division(place),
-        InfixOp::Mod => Ok(Value::Number(modulus(as_number(left), as_number(right)))),
-        InfixOp::Rem => Ok(Value::Number(remainder(as_number(left), as_number(right)))),
+        InfixOp::Mod => Ok(Scalar::number(modulus(left.as_number(), right.as_number()))),
+        InfixOp::Rem => Ok(Scalar::number(remainder(left.as_number(), right.as_number()))),
         InfixOp::Power if is_negative(right) => out_of_range(right_place),
         InfixOp::Power => in_base(base, place, value),
         _ => exactly(value),
@@ -119,7 +119,7 @@ fn checked(
 }
 
 /// The divisor of the operation at the place is 0.
-fn division(place: Place) -> Result<Value, Bad>
+fn division(place: Place) -> Result<Scalar, Bad>
     ensures { answered result ≡ Fails bad.Division place }
 {
     Err(Bad {
@@ -129,7 +129,7 @@ fn division(place: Place) -> Result<Value, Bad>
 }
 
 /// The value at the place does not lie where it must.
-fn out_of_range(place: Place) -> Result<Value, Bad>
+fn out_of_range(place: Place) -> Result<Scalar, Bad>
     ensures { answered result ≡ Fails bad.Range place }
 {
     Err(Bad {
@@ -140,18 +140,19 @@ fn out_of_range(place: Place) -> Result<Value, Bad>
 
 /// The result of an operation on one operand, of this base type.
 #[tactic(auto, using(crate::proofs::BitLaws::operation_laws))]
-fn sign_checked(op: PrefixOp, base: BaseType, place: Place, operand: Value) -> Result<Value, Bad>
+fn sign_checked(op: PrefixOp, base: BaseType, place: Place, operand: Scalar) -> Result<Scalar, Bad>
     ensures { answered result ≡ signed op base place operand }
 {
     let value = signed(op, operand);
     match op {
-        PrefixOp::Plus | PrefixOp::Not => exactly(value),
+        PrefixOp::Plus => Ok(operand),
+        PrefixOp::Not => exactly(value),
         PrefixOp::Minus | PrefixOp::Abs => in_base(base, place, value),
     }
 }
 
 /// The result of a function, if it lies in its bounds.
-fn within_bounds(bounds: Span, place: Place, found: Option<Value>) -> Result<Value, Bad>
+fn within_bounds(bounds: Span, place: Place, found: Option<Scalar>) -> Result<Scalar, Bad>
     ensures { (x : Value) → found ≡ held x → answered result ≡ within_bounds (Some bounds) place x }
 {
     let bad = Bad {
@@ -162,7 +163,7 @@ fn within_bounds(bounds: Span, place: Place, found: Option<Value>) -> Result<Val
 }
 
 /// The result of a function of an operand at the place. A function without bounds gives its operand.
-fn mapping_checked(function: &CoreFunction, place: Place, operand: Value) -> Result<Value, Bad>
+fn mapping_checked(function: &CoreFunction, place: Place, operand: Scalar) -> Result<Scalar, Bad>
     ensures { answered result ≡ mapping_checked (application function.now) place operand }
 {
     match application(function) {
@@ -175,22 +176,22 @@ fn mapping_checked(function: &CoreFunction, place: Place, operand: Value) -> Res
 }
 
 /// The value of a short-circuit form whose left operand decides it (Ada 95 RM 4.5.1).
-fn decided(op: InfixOp, left: Value) -> Option<Value>
+fn decided(op: InfixOp, left: Scalar) -> Option<Scalar>
     ensures { result ≡ decided op left }
 {
     match op {
-        InfixOp::AndThen if !as_truth(left) => Some(Value::Truth(false)),
-        InfixOp::OrElse if as_truth(left) => Some(Value::Truth(true)),
+        InfixOp::AndThen if !left.as_truth() => Some(Scalar::truth(false)),
+        InfixOp::OrElse if left.as_truth() => Some(Scalar::truth(true)),
         _ => None,
     }
 }
 
 /// A read of what is denoted at the place. What denotes no variable counts as 0.
-fn read(store: &[Option<Value>], place: Place, var: Option<VarId>) -> Result<Value, Bad>
+fn read(store: &[Option<Scalar>], place: Place, var: Option<VarId>) -> Result<Scalar, Bad>
     ensures { answered result ≡ read store.now place var }
 {
     let Some(var) = var else {
-        return Ok(Value::Number(0));
+        return Ok(Scalar::number(0));
     };
     look(store, var).ok_or(Bad {
         kind: BadKind::Unset,
@@ -204,19 +205,19 @@ fn read(store: &[Option<Value>], place: Place, var: Option<VarId>) -> Result<Val
 pub(crate) fn eval(
     body: &Body,
     turns: u64,
-    store: &[Option<Value>],
+    store: &[Option<Scalar>],
     expr: &CoreExpr,
-) -> Result<Value, Bad>
+) -> Result<Scalar, Bad>
     ensures { answered result ≡ eval (frame_of body.now) turns store.now expr.now }
 {
     if let Some(value) = literal(expr) {
         return Ok(value);
     }
     match expr {
-        CoreExpr::Number(number, _) => Ok(Value::Number(*number)),
+        CoreExpr::Number(number, _) => Ok(Scalar::number(*number)),
         CoreExpr::Name(name) => read(store, name.name.place, variable_of(name.entity)),
         CoreExpr::Entry(name, _) => read(store, name.name.place, variable_of(name.entity)),
-        CoreExpr::Attribute(_, _) => Ok(Value::Number(0)),
+        CoreExpr::Attribute(_, _) => Ok(Scalar::number(0)),
         CoreExpr::Applied(function, _, operand) => {
             let value = eval(body, turns, store, operand.get())?;
             mapping_checked(function, operand.get().place(), value)
@@ -253,11 +254,11 @@ pub(crate) fn eval(
 pub(crate) fn is_true(
     body: &Body,
     turns: u64,
-    store: &[Option<Value>],
+    store: &[Option<Scalar>],
     condition: &CoreExpr,
 ) -> Result<bool, Bad>
     ensures { truth_answered result (eval (frame_of body.now) turns store.now condition.now) }
 {
     let value = eval(body, turns, store, condition)?;
-    Ok(as_truth(value))
+    Ok(value.as_truth())
 }

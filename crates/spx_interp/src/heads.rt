@@ -9,15 +9,14 @@ ghost use Rattle.spx_interp.specs.Results.{IsWay, frame_of, on_bounds, test_of, 
 
 use crate::body::Body;
 use crate::evaluation::{eval, is_true};
-use crate::numbers::as_number;
 use spx_core::{CoreCount, CoreScheme, Span, Subtype};
-use spx_meaning::{Bad, BadKind, Value, is_in, type_of};
+use spx_meaning::{Bad, BadKind, Scalar, is_in, type_of};
 
 /// Whether a loop takes another turn, as far as its condition says. One without a condition does.
 pub(crate) fn goes_on(
     body: &Body,
     turns: u64,
-    store: &[Option<Value>],
+    store: &[Option<Scalar>],
     scheme: &CoreScheme,
 ) -> Result<bool, Bad>
     ensures { truth_answered result (test_of (frame_of body.now) turns store.now (head_of scheme.now)) }
@@ -33,14 +32,15 @@ fn are_in_type(subtype: Subtype, bounds: Span) -> bool
     ensures { result ≡ (not (int_le bounds.first bounds.last) || (is_in subtype (Number bounds.first) && is_in subtype (Number bounds.last))) }
 {
     bounds.first > bounds.last
-        || is_in(subtype, Value::Number(bounds.first)) && is_in(subtype, Value::Number(bounds.last))
+        || is_in(subtype, Scalar::number(bounds.first))
+            && is_in(subtype, Scalar::number(bounds.last))
 }
 
 /// The bounds of a loop that counts. Where none are written, they are the ends of the type.
 pub(crate) fn bounds_of(
     body: &Body,
     turns: u64,
-    store: &[Option<Value>],
+    store: &[Option<Scalar>],
     count: &CoreCount,
 ) -> Result<Span, Bad>
     ensures runs { (go : (low high : ℤ) → Store → Outcome) → with_bounds (frame_of body.now) turns store.now (type_of body.now.program.now count.now.parameter) count.now.bounds go ≡ on_bounds result store.now go }
@@ -54,8 +54,8 @@ pub(crate) fn bounds_of(
         });
     };
     let low = range.get().low.get();
-    let first = as_number(eval(body, turns, store, low)?);
-    let last = as_number(eval(body, turns, store, range.get().high.get())?);
+    let first = eval(body, turns, store, low)?.as_number();
+    let last = eval(body, turns, store, range.get().high.get())?.as_number();
     let bounds = Span { first, last };
     if are_in_type(subtype, bounds) {
         Ok(bounds)

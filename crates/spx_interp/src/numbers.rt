@@ -2,42 +2,8 @@
 ghost use Rattle.std.specs.Prelude.{◌≡◌, ◌+ℤ◌, ◌-ℤ◌, ◌*ℤ◌, pos};
 ghost use Rattle.spx_num.specs.Exact.{absolute, exact, modulus, or_zero, quotient, raised, remainder};
 ghost use Rattle.spx_num.specs.Widths.{fitting};
-ghost use Rattle.spx_term.specs.Meaning.{as_number, as_truth, same_value};
 
-use spx_meaning::Value;
 use spx_num::{Op, checked, modulo, power, quot, rem};
-
-/// The number, or 0 of what is none.
-pub(crate) fn as_number(value: Value) -> i128
-    ensures { result ≡ as_number value }
-{
-    match value {
-        Value::Number(number) => number,
-        Value::Truth(_) => 0,
-    }
-}
-
-/// The truth value, or false of what is none.
-pub(crate) fn as_truth(value: Value) -> bool
-    ensures { result ≡ as_truth value }
-{
-    match value {
-        Value::Number(_) => false,
-        Value::Truth(truth) => truth,
-    }
-}
-
-/// Whether two values are equal.
-pub(crate) fn same_value(left: Value, right: Value) -> bool
-    ensures { result ≡ same_value left right }
-{
-    match (left, right) {
-        (Value::Number(m), Value::Number(n)) => m == n,
-        (Value::Number(_), Value::Truth(_)) => false,
-        (Value::Truth(_), Value::Number(_)) => false,
-        (Value::Truth(a), Value::Truth(b)) => a == b,
-    }
-}
 
 /// A sum, a difference or a product, where 128 bits hold it.
 #[tactic(auto, using(spx_num::specs::Widths::fits_laws))]

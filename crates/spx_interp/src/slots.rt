@@ -3,12 +3,12 @@ ghost use Rattle.std.specs.Prelude.{◌≡◌, ◌<◌, None, length};
 ghost use Rattle.spx_meaning.specs.Stores.{look, put};
 
 use spx_core::VarId;
-use spx_meaning::Value;
+use spx_meaning::Scalar;
 use sqlite_items::at;
 
 /// The value of a variable, if it is set.
 #[tactic(auto, using(spx_meaning::proofs::StoreValues::look_is))]
-pub(crate) fn look(slots: &[Option<Value>], var: VarId) -> Option<Value>
+pub(crate) fn look(slots: &[Option<Scalar>], var: VarId) -> Option<Scalar>
     ensures { result ≡ look slots.now var }
 {
     *at(slots, var.0)?
@@ -16,7 +16,7 @@ pub(crate) fn look(slots: &[Option<Value>], var: VarId) -> Option<Value>
 
 /// Gives the variable a value, or takes it away.
 #[tactic(auto, using(spx_meaning::proofs::StoreValues::put_is))]
-pub(crate) fn put(slots: &mut [Option<Value>], var: VarId, value: Option<Value>)
+pub(crate) fn put(slots: &mut [Option<Scalar>], var: VarId, value: Option<Scalar>)
     requires { var.0 < length slots.old }
     ensures { slots.new ≡ put slots.old var value }
 {
@@ -25,7 +25,7 @@ pub(crate) fn put(slots: &mut [Option<Value>], var: VarId, value: Option<Value>)
 
 /// Takes the value of the variable away, if it has one.
 #[tactic(auto, using(spx_meaning::proofs::StoreValues::put_is))]
-pub(crate) fn unset(slots: &mut [Option<Value>], var: VarId)
+pub(crate) fn unset(slots: &mut [Option<Scalar>], var: VarId)
     requires { var.0 < length slots.old }
     ensures { slots.new ≡ put slots.old var None }
 {

@@ -17,14 +17,20 @@ use spx_core::{
     CoreAlternative, CoreArm, CoreCount, CoreExpr, CoreScheme, CoreStmt, Reference, Span, VarId,
     variable_of,
 };
-use spx_meaning::{Bad, BadKind, Value, is_in, type_of};
+use spx_meaning::{Bad, BadKind, Scalar, is_in, type_of};
 use spx_num::TooWide;
 use spx_text::Place;
 use spx_tree::AssertionKind;
 use sqlite_items::Boxed;
 
 /// Gives a variable a value of its type.
-fn assign(body: &Body, store: &mut [Option<Value>], place: Place, var: VarId, value: Value) -> Step
+fn assign(
+    body: &Body,
+    store: &mut [Option<Scalar>],
+    place: Place,
+    var: VarId,
+    value: Scalar,
+) -> Step
     requires { var.0 < length store.old }
     ensures { assign body.now.program.now place (Some var) store.old value ≡ outcome_of result store.new }
 {
@@ -44,7 +50,7 @@ fn assign(body: &Body, store: &mut [Option<Value>], place: Place, var: VarId, va
 fn run_assignment(
     body: &Body,
     turns: u64,
-    store: &mut [Option<Value>],
+    store: &mut [Option<Scalar>],
     target: &Reference,
     expr: &CoreExpr,
 ) -> Step
@@ -64,7 +70,7 @@ fn run_assignment(
 #[tactic(auto, using(crate::proofs::RunForms::looked_at_is))]
 pub(crate) fn look_at(
     body: &Body,
-    store: &[Option<Value>],
+    store: &[Option<Scalar>],
     kind: BadKind,
     place: Place,
     annotation: &CoreExpr,
@@ -93,7 +99,7 @@ fn untrue(kind: AssertionKind) -> BadKind
 fn run_exit(
     body: &Body,
     turns: u64,
-    store: &[Option<Value>],
+    store: &[Option<Scalar>],
     condition: &Option<Boxed<CoreExpr>>,
 ) -> Step
     ensures { (place : Place) → ran (frame_of body.now) turns store.now (exit_where place condition.now) ≡ Some (outcome_of result store.now) }
@@ -114,7 +120,7 @@ fn run_exit(
 pub(crate) fn run_stmts(
     body: &Body,
     turns: u64,
-    store: &mut [Option<Value>],
+    store: &mut [Option<Scalar>],
     stmts: &[CoreStmt],
 ) -> Result<Step, TooWide>
     requires { HasRoom (length store.old) (commands stmts.now) }
@@ -134,7 +140,7 @@ pub(crate) fn run_stmts(
 fn run_stmt(
     body: &Body,
     turns: u64,
-    store: &mut [Option<Value>],
+    store: &mut [Option<Scalar>],
     stmt: &CoreStmt,
 ) -> Result<Step, TooWide>
     requires { HasRoom (length store.old) (command stmt.now) }
@@ -176,7 +182,7 @@ fn run_stmt(
 fn run_arm(
     body: &Body,
     turns: u64,
-    store: &mut [Option<Value>],
+    store: &mut [Option<Scalar>],
     arms: &[CoreArm],
     k: usize,
 ) -> Result<Step, TooWide>
@@ -192,7 +198,7 @@ fn run_arm(
 fn run_case(
     body: &Body,
     turns: u64,
-    store: &mut [Option<Value>],
+    store: &mut [Option<Scalar>],
     alternatives: &[CoreAlternative],
     selector: &CoreExpr,
 ) -> Result<Step, TooWide>
@@ -216,7 +222,7 @@ fn run_case(
 fn run_loop(
     body: &Body,
     turns: u64,
-    store: &mut [Option<Value>],
+    store: &mut [Option<Scalar>],
     stmts: &[CoreStmt],
     scheme: &CoreScheme,
 ) -> Result<Step, TooWide>
@@ -236,7 +242,7 @@ fn run_loop(
 fn run_turns(
     body: &Body,
     turns: u64,
-    store: &mut [Option<Value>],
+    store: &mut [Option<Scalar>],
     stmts: &[CoreStmt],
     scheme: &CoreScheme,
 ) -> Result<Step, TooWide>
@@ -268,7 +274,7 @@ fn run_turns(
 fn run_for(
     body: &Body,
     turns: u64,
-    store: &mut [Option<Value>],
+    store: &mut [Option<Scalar>],
     stmts: &[CoreStmt],
     count: &CoreCount,
 ) -> Result<Step, TooWide>
@@ -296,7 +302,7 @@ fn run_for(
 fn run_count(
     body: &Body,
     turns: u64,
-    store: &mut [Option<Value>],
+    store: &mut [Option<Scalar>],
     stmts: &[CoreStmt],
     count: &CoreCount,
     way: Span,
@@ -309,7 +315,7 @@ fn run_count(
     let mut left = turns;
     while left > 0 {
         left -= 1;
-        put(store, count.parameter, Some(Value::Number(value)));
+        put(store, count.parameter, Some(Scalar::number(value)));
         let step = run_stmts(body, left, store, stmts)?;
         if !step.has_ended() {
             return Ok(step.past_loop());

@@ -25,7 +25,7 @@ use Rattle.spx_term.specs.declared.term.Term.TheVariants.{Infix, Number, Prefix}
 use Rattle.spx_term.specs.declared.term.TermOp.{TermOp}
 use Rattle.spx_term.specs.declared.term.TermPrefix.TheVariants.{Not}
 use Rattle.spx_term.specs.declared.value.Value.{Value}
-use Rattle.spx_term.specs.Folding.{term_of as static_term}
+use Rattle.spx_term.specs.Folding.{static_term}
 use Rattle.spx_term.specs.Steps.{Tree, check}
 use Rattle.spx_meaning.specs.Evaluation.{term_op}
 use Rattle.spx_meaning.specs.Literals.{base_of, literal}

@@ -72,6 +72,7 @@ result_of p name turns file lines = result_at p name turns file lines (entry_nam
 abbrev pub value_text : Value → List ℕ
 value_text (value.Number n) = signed_decimal n
 value_text (value.Truth b) = if b then codes "True" else codes "False"
+value_text _ = []
 
 -- `NAME = VALUE`
 unfoldable pub output_line : Output → List ℕ

@@ -6,20 +6,20 @@ ghost use Rattle.spx_run.specs.Mirror.{name_line, place_line};
 ghost use Rattle.spx_run.specs.Results as spec;
 
 use crate::result::{InputFinding, Output};
-use spx_meaning::{Bad, BadKind, Value};
+use spx_meaning::{Bad, BadKind, Literal, Scalar};
 use spx_num::decimal;
 use spx_report::{place_text, spot_text};
 use spx_text::{Place, Text};
 use std::alloc::{AllocError, Global};
 
 /// A value in the form of an input.
-fn put_value(alloc: Global, out: &mut Vec<u8>, value: Value) -> Result<(), AllocError>
+fn put_value(alloc: Global, out: &mut Vec<u8>, value: Scalar) -> Result<(), AllocError>
     ensures { OnOk result (out.new.items ≡ out.old.items ++ spec.value_text value) }
 {
-    match value {
-        Value::Number(number) => out.extend_from_slice(decimal(alloc, number)?.as_slice()),
-        Value::Truth(true) => out.extend_from_slice(b"True"),
-        Value::Truth(false) => out.extend_from_slice(b"False"),
+    match value.literal() {
+        Literal::Number(number) => out.extend_from_slice(decimal(alloc, number)?.as_slice()),
+        Literal::Truth(true) => out.extend_from_slice(b"True"),
+        Literal::Truth(false) => out.extend_from_slice(b"False"),
     }
 }
 

@@ -1,5 +1,6 @@
 pub mod Folds
 pub mod Meets
+pub mod Components
 pub mod Widths
 pub mod Places
 pub mod Tables

@@ -11,7 +11,7 @@ use Rattle.spx_arena.specs.declared.terms.Node.TheVariants as node
 use Rattle.spx_simplify.specs.declared.known.Known.{Known}
 use Rattle.spx_simplify.specs.declared.known.Made.{Made}
 use Rattle.spx_simplify.specs.Folds.{place_of}
-use Rattle.spx_simplify.specs.Tables.{interval_at, made_at, Stands, IsMade, Gives, Ready, Leaves, Sets, set_to, Keeps}
+use Rattle.spx_simplify.specs.Tables.{interval_at, test_at, made_at, Stands, IsMade, Gives, Ready, Leaves, Sets, set_to, Keeps}
 use Rattle.spx_simplify.proofs.Meets.{meet_unbounded}
 
 pub gives_made : {made : List Made} {id : TermId} {x : Interval} → Gives made id x → IsMade made id
@@ -27,6 +27,10 @@ ready_along a b m same (node.Truth v) r = tt
 ready_along a b m same (node.Variable x) r = tt
 ready_along a b m same (node.Prefix op x) r = stands_along a b m x same r
 ready_along a b m same (node.Infix op x y) r = (stands_along a b m x same r.0, stands_along a b m y same r.1)
+ready_along a b m same (node.Blank id) r = tt
+ready_along a b m same (node.Unary op x) r = stands_along a b m x same r
+ready_along a b m same (node.Binary op x y) r = stands_along a b m x same r
+ready_along a b m same (node.Ternary op x y z) r = tt
 
 -- ---- other bounds
 pub set_met : (xs : List Interval) (id : TermId) (x : Interval) (i : ℕ) → set_to xs id (meet (interval_at xs id.0) x) i ≡ meet (interval_at xs i) (cond (eqb id.0 i) x unbounded)
@@ -36,11 +40,12 @@ set_met xs id x i = by (eqb id.0 i) (Decides-eqb id.0 i)
     by true d = ap (λ j. meet (interval_at xs j) x) (d.0 refl)
     by false d = sym (meet_unbounded (interval_at xs i))
 
-pub leaves_same : (old new : Known) → new.bounds ≡ old.bounds → new.made.items ≡ old.made.items → Leaves old new
-leaves_same old new bounds items = record {
+pub leaves_same : (old new : Known) → new.bounds ≡ old.bounds → new.said ≡ old.said → new.made.items ≡ old.made.items → Leaves old new
+leaves_same old new bounds said items = record {
   fewer = omega (arith, ap length items);
   same = λ j w. ap (λ ms. made_at ms j) items;
   bounds = λ j w. ap (λ bs. interval_at bs (made_at new.made.items j).id.0) bounds;
+  said = λ j w. ap (λ bs. test_at bs (made_at new.made.items j).id.0) said;
 }
 
 pub leaves_twice : {a b c : Known} → Leaves a b → Leaves b c → Leaves a c
@@ -53,10 +58,16 @@ leaves_twice {a} {b} {c} f g = record {
       ∙ ap (λ (x : Made). interval_at b.bounds x.id.0) (g.same j w)
       ∙ f.bounds j v
       ∙ ap (λ (x : Made). interval_at a.bounds x.id.0) (sym (g.same j w));
+  said = λ j w.
+      let v : j < length b.made.items = omega (arith, g.fewer) in
+      g.said j w
+      ∙ ap (λ (x : Made). test_at b.said x.id.0) (g.same j w)
+      ∙ f.said j v
+      ∙ ap (λ (x : Made). test_at a.said x.id.0) (sym (g.same j w));
 }
 
 pub sets_along : {n : ℕ} {old new : Known} (f g : ℕ → Interval) → Sets n old new f → ((i : ℕ) → i < n → f i ≡ g i) → Sets n old new g
-sets_along f g s e = record { facts = s.facts; sized = s.sized; bounds = λ i w. s.bounds i w ∙ e i w; leaves = s.leaves }
+sets_along f g s e = record { facts = s.facts; sized = s.sized; bounds = λ i w. s.bounds i w ∙ e i w; said = s.said; leaves = s.leaves }
 
 -- ---- one interval more
 module _ (old new : Known) (id : TermId) (x : Interval) (absent : IsMade old.made.items id → ⊥) (items : new.made.items ≡ old.made.items ++ record { id = id; interval = x } ∷ []) (places : new.places ≡ slice_set old.places id.0 (length old.made.items)) where

@@ -1,15 +1,18 @@
 -- Which goals are plain, by what the tables say.
-use Rattle.std.proofs.Common.{◌≡◌, ℤ, ◌<◌, Bool, true, false, ◌&&◌, ◌||◌, List, ◌++◌, length, refl, sym, ap, ◌∙◌}
+use Rattle.std.proofs.Common.{◌≡◌, ℕ, ℤ, ◌<◌, Bool, true, false, ◌&&◌, ◌||◌, List, ◌++◌, length, refl, sym, ap, ◌∙◌}
 use Rattle.spx_term.specs.declared.term.Name.{Name}
 use Rattle.spx_term.specs.declared.term.TermOp.{TermOp}
 use Rattle.spx_term.specs.declared.term.TermOp.TheVariants as signs
 use Rattle.spx_term.specs.declared.term.TermPrefix.{TermPrefix}
+use Rattle.spx_term.specs.declared.term.UnaryOp.{UnaryOp}
+use Rattle.spx_term.specs.declared.term.BinaryOp.{BinaryOp}
+use Rattle.spx_term.specs.declared.term.TernaryOp.{TernaryOp}
 use Rattle.spx_term.specs.declared.term.Term.{Term}
-use Rattle.spx_term.specs.declared.term.Term.TheVariants.{Number, Truth, Variable, Prefix, Infix}
+use Rattle.spx_term.specs.declared.term.Term.TheVariants.{Number, Truth, Variable, Blank, Prefix, Infix, Unary, Binary, Ternary}
 use Rattle.spx_term.specs.declared.interval.Interval.{Interval}
 use Rattle.spx_term.specs.Conjuncts.{conjuncts}
 use Rattle.spx_term.specs.Intervals.{interval}
-use Rattle.spx_term.specs.Plain.{is_among, is_plain, settled, joined, is_plain-Number, is_plain-Truth, is_plain-Variable, is_plain-Prefix, is_plain-Infix}
+use Rattle.spx_term.specs.Plain.{is_among, is_plain, settled, joined, is_plain-Number, is_plain-Truth, is_plain-Variable, is_plain-Blank, is_plain-Prefix, is_plain-Infix, is_plain-Unary, is_plain-Binary, is_plain-Ternary}
 use Rattle.spx_arena.specs.declared.terms.TermId.{TermId}
 use Rattle.spx_arena.specs.declared.terms.Node.{Node}
 use Rattle.spx_arena.specs.declared.terms.Node.TheVariants as node
@@ -30,6 +33,10 @@ module _ (trees hyps : List Term) (k : Known) (knows : Knows trees hyps k) (goal
       plain_or (node.Truth b) is e = sym (ap (is_plain hyps) is ∙ is_plain-Truth hyps b ∙ ap (λ c. b || c) e ∙ or_true b)
       plain_or (node.Variable x) is e = sym (ap (is_plain hyps) is ∙ is_plain-Variable hyps x ∙ e)
       plain_or (node.Prefix op a) is e = sym (ap (is_plain hyps) is ∙ is_plain-Prefix hyps op (tree_at trees a) ∙ e)
+      plain_or (node.Blank id) is e = sym (ap (is_plain hyps) is ∙ is_plain-Blank hyps id ∙ e)
+      plain_or (node.Unary op a) is e = sym (ap (is_plain hyps) is ∙ is_plain-Unary hyps op (tree_at trees a) ∙ e)
+      plain_or (node.Binary op a b) is e = sym (ap (is_plain hyps) is ∙ is_plain-Binary hyps op (tree_at trees a) (tree_at trees b) ∙ e)
+      plain_or (node.Ternary op a b c) is e = sym (ap (is_plain hyps) is ∙ is_plain-Ternary hyps op (tree_at trees a) (tree_at trees b) (tree_at trees c) ∙ e)
       plain_or (node.Infix op a b) is e = sym (ap (is_plain hyps) is ∙ is_plain-Infix hyps op (tree_at trees a) (tree_at trees b) ∙ ap (λ c. c || joined op (is_plain hyps (tree_at trees a)) (is_plain hyps (tree_at trees b)) (is_plain (hyps ++ conjuncts (tree_at trees a)) (tree_at trees b)) (interval hyps (tree_at trees a)) (interval hyps (tree_at trees b))) e)
 
   module _ (absent : test_at k.facts goal.0 ≡ false) where
@@ -47,6 +54,18 @@ module _ (trees hyps : List Term) (k : Known) (knows : Knows trees hyps k) (goal
 
     pub plain_prefix : (op : TermPrefix) (a : Term) → tree_at trees goal ≡ Prefix op a → false ≡ is_plain hyps (tree_at trees goal)
     plain_prefix op a is = sym (ap (is_plain hyps) is ∙ is_plain-Prefix hyps op a ∙ not_among (Prefix op a) is)
+
+    pub plain_blank : (id : ℕ) → tree_at trees goal ≡ Blank id → false ≡ is_plain hyps (tree_at trees goal)
+    plain_blank id is = sym (ap (is_plain hyps) is ∙ is_plain-Blank hyps id ∙ not_among (Blank id) is)
+
+    pub plain_unary : (op : UnaryOp) (a : Term) → tree_at trees goal ≡ Unary op a → false ≡ is_plain hyps (tree_at trees goal)
+    plain_unary op a is = sym (ap (is_plain hyps) is ∙ is_plain-Unary hyps op a ∙ not_among (Unary op a) is)
+
+    pub plain_binary : (op : BinaryOp) (a b : Term) → tree_at trees goal ≡ Binary op a b → false ≡ is_plain hyps (tree_at trees goal)
+    plain_binary op a b is = sym (ap (is_plain hyps) is ∙ is_plain-Binary hyps op a b ∙ not_among (Binary op a b) is)
+
+    pub plain_ternary : (op : TernaryOp) (a b c : Term) → tree_at trees goal ≡ Ternary op a b c → false ≡ is_plain hyps (tree_at trees goal)
+    plain_ternary op a b c is = sym (ap (is_plain hyps) is ∙ is_plain-Ternary hyps op a b c ∙ not_among (Ternary op a b c) is)
 
     abbrev joined_at : TermOp → Term → Term → Bool
     joined_at op a b = joined op (is_plain hyps a) (is_plain hyps b) (is_plain (hyps ++ conjuncts a) b) (interval hyps a) (interval hyps b)

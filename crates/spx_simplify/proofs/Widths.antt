@@ -6,8 +6,8 @@ use Rattle.std.proofs.Math.IntN.{+ℤ_idl}
 use Rattle.std.specs.Int.{w128}
 use Rattle.spx_num.specs.Widths.{fits, fitting, fits-Decides}
 use Rattle.spx_term.specs.declared.interval.Interval.{Interval}
-use Rattle.spx_term.specs.declared.value.Value.{Value}
-use Rattle.spx_term.specs.declared.value.Value.TheVariants as value
+use Rattle.spx_term.specs.declared.value.Literal.{Literal}
+use Rattle.spx_term.specs.declared.value.Literal.TheVariants as literal
 use Rattle.std.specs.Ordering.{int_eq}
 use Rattle.spx_num.specs.Exact.{absolute}
 use Rattle.spx_term.specs.Intervals.{unbounded, nearer_than, lesser, greater, products, product_of, up_to_magnitude}
@@ -173,7 +173,7 @@ greater_wide low high v w other =
     let less = high_last high z ((fits-Decides high).1 w) none (minus_side low ((fits-Decides low).1 v) none) in
     ap (λ b. fitting (cond b high z)) (not_both high z less) ∙ ap (λ b. cond b (Some z) None) none
 
-pub nearer_is : (divisor : Option Value) (v : ℤ) (i : Interval) → divisor ≡ Some (value.Number v) → int_eq v (pos 0) ≡ false → i ≡ up_to_magnitude (absolute v -ℤ pos 1) → i ≡ nearer_than divisor
+pub nearer_is : (divisor : Option Literal) (v : ℤ) (i : Interval) → divisor ≡ Some (literal.Number v) → int_eq v (pos 0) ≡ false → i ≡ up_to_magnitude (absolute v -ℤ pos 1) → i ≡ nearer_than divisor
 nearer_is divisor v i d e f = f ∙ ap (λ b. cond b unbounded (up_to_magnitude (absolute v -ℤ pos 1))) (sym e) ∙ sym (ap nearer_than d)
 
 pub not_zero : (v : ℤ) → (of_z w128 v ≡ 0 → ⊥) → int_eq v (pos 0) ≡ false

@@ -4,27 +4,31 @@ ghost use Rattle.spx_term.specs.declared.term.Term.TheVariants as term;
 ghost use Rattle.spx_term.specs.declared.term.TermPrefix.TheVariants as sign;
 ghost use Rattle.spx_term.specs.Equality.{same_term};
 ghost use Rattle.spx_term.specs.Negation.{form_of, negated};
-ghost use Rattle.spx_term.specs.Folding.{literal_of, term_of, prefixed, simplified, folded};
+ghost use Rattle.spx_term.specs.Folding.{literal_of, term_of, prefixed, taken, element_or, simplified, simplified_unary, simplified_binary, simplified_ternary, folded};
 ghost use Rattle.spx_arena.specs.Sharing.{tree_at, Grows};
-ghost use Rattle.spx_simplify.specs.Folds.{AreFolds, id_at};
+ghost use Rattle.spx_simplify.specs.Folds.{AreFolds, Ends, Leads, id_at};
+ghost use Rattle.spx_term.specs.declared.reading.Reading.TheVariants as reading;
 ghost use Rattle.spx_arena.specs.Sharing.{Adds};
 
 use spx_arena::{Node, TermId, Terms};
 use spx_term::{
-    Simplification, TermForm, TermOp, TermPrefix, Value, compute_prefix, opposite, simpler_form,
+    ArrayType, BinaryOp, Component, FieldName, Found, Literal, Reading, Simplification, TermForm,
+    TermOp, TermPrefix, TernaryOp, UnaryOp, binary_form, compute_prefix, found_in_binary,
+    found_in_ternary, found_in_unary, is_empty, lies_between, of_none, opposite, simpler_form,
+    unary_form,
 };
 use sqlite_items::Items;
 use std::alloc::{AllocError, Global};
 
 /// The value of a term that is a literal.
 #[tactic(auto, using(crate::proofs::Folds::literal_forms))]
-pub fn literal_at(terms: &Terms, id: TermId) -> Option<Value>
+pub fn literal_at(terms: &Terms, id: TermId) -> Option<Literal>
     requires { id.0 < length terms.now }
     ensures { result ≡ literal_of (tree_at terms.now id) }
 {
     match terms.node(id) {
-        Node::Number(value) => Some(Value::Number(value)),
-        Node::Truth(value) => Some(Value::Truth(value)),
+        Node::Number(value) => Some(Literal::Number(value)),
+        Node::Truth(value) => Some(Literal::Truth(value)),
         _ => None,
     }
 }
@@ -53,6 +57,10 @@ fn is_negation(terms: &Terms, left: TermId, right: TermId) -> bool
         Node::Truth(_) => false,
         Node::Variable(_) => false,
         Node::Infix(_, _, _) => false,
+        Node::Blank(_) => false,
+        Node::Unary(_, _) => false,
+        Node::Binary(_, _, _) => false,
+        Node::Ternary(_, _, _, _) => false,
     }
 }
 
@@ -68,6 +76,10 @@ fn form_at(terms: &Terms, id: TermId) -> TermForm
         Node::Variable(name) => TermForm::Variable(name.sort),
         Node::Prefix(op, _) => TermForm::Prefix(op),
         Node::Infix(op, _, _) => TermForm::Infix(op),
+        Node::Blank(_) => TermForm::Other,
+        Node::Unary(op, _) => unary_form(op),
+        Node::Binary(op, _, _) => binary_form(op),
+        Node::Ternary(_, _, _, _) => TermForm::Other,
     }
 }
 
@@ -91,6 +103,10 @@ fn negated(terms: &mut Terms, operand: TermId) -> Result<TermId, AllocError>
             Some(op) => terms.infix(op, left, right),
             None => terms.make(Node::Prefix(TermPrefix::Not, operand)),
         },
+        Node::Blank(_) => terms.make(Node::Prefix(TermPrefix::Not, operand)),
+        Node::Unary(_, _) => terms.make(Node::Prefix(TermPrefix::Not, operand)),
+        Node::Binary(_, _, _) => terms.make(Node::Prefix(TermPrefix::Not, operand)),
+        Node::Ternary(_, _, _, _) => terms.make(Node::Prefix(TermPrefix::Not, operand)),
     }
 }
 
@@ -127,7 +143,7 @@ fn simplified(
     match simpler_form(op, literal_at(terms, left), literal_at(terms, right)) {
         Simplification::Left => Ok(left),
         Simplification::Right => Ok(right),
-        Simplification::Literal(value) => terms.literal(value),
+        Simplification::Known(value) => terms.literal(value),
         Simplification::NotLeft => prefixed(terms, TermPrefix::Not, left),
         Simplification::NotRight => prefixed(terms, TermPrefix::Not, right),
         Simplification::OfItself(value) => {
@@ -145,6 +161,204 @@ fn simplified(
             }
         }
         Simplification::Operation => terms.infix(op, left, right),
+    }
+}
+
+/// What reading a term comes to at its own operation.
+#[derive(Clone, Copy)]
+enum Next {
+    /// It is this part.
+    Part(TermId),
+    /// It is what is read of this earlier term.
+    Before(TermId),
+    /// It is a term that reads.
+    Whole,
+}
+
+/// What reading a term comes to.
+#[derive(Clone, Copy)]
+enum End {
+    /// It is this term.
+    Part(TermId),
+    /// It is a term that reads this one.
+    Whole(TermId),
+}
+
+/// What reading a term comes to at its own operation.
+#[tactic(auto, using(spx_term::specs::Folding::taken_forms))]
+fn own_step(terms: &Terms, reading: Reading, at: TermId) -> Next
+    requires { at.0 < length terms.now }
+    ensures { Leads terms.now reading at result }
+{
+    match terms.node(at) {
+        Node::Number(_) => Next::Whole,
+        Node::Truth(_) => Next::Whole,
+        Node::Variable(_) => Next::Whole,
+        Node::Blank(_) => Next::Whole,
+        Node::Prefix(_, _) => Next::Whole,
+        Node::Infix(_, _, _) => Next::Whole,
+        Node::Unary(op, operand) => match found_in_unary(reading, op) {
+            Found::Last => Next::Part(operand),
+            Found::Before => Next::Whole,
+            Found::Unseen => Next::Whole,
+        },
+        Node::Binary(op, left, right) => match found_in_binary(reading, op) {
+            Found::Last => Next::Part(right),
+            Found::Before => Next::Before(left),
+            Found::Unseen => Next::Whole,
+        },
+        Node::Ternary(op, first, second, third) => {
+            match found_in_ternary(reading, op, literal_at(terms, second)) {
+                Found::Last => Next::Part(third),
+                Found::Before => Next::Before(first),
+                Found::Unseen => Next::Whole,
+            }
+        }
+    }
+}
+
+/// What reading a term comes to. A chain of updates is followed by a loop, since it may be as long as a body.
+fn reached(terms: &Terms, reading: Reading, id: TermId) -> End
+    requires { id.0 < length terms.now }
+    ensures { Ends terms.now reading id result }
+{
+    let mut at = id;
+    'chain: loop {
+        match own_step(terms, reading, at) {
+            Next::Part(part) => return End::Part(part),
+            Next::Before(before) => {
+                at = before;
+                continue 'chain;
+            }
+            Next::Whole => return End::Whole(at),
+        }
+    }
+}
+
+/// A field of a folded record.
+#[tactic(auto, using(crate::proofs::Folds::adds_laws))]
+fn field_of(
+    terms: &mut Terms,
+    field: FieldName,
+    component: Component,
+    id: TermId,
+) -> Result<TermId, AllocError>
+    requires { id.0 < length terms.old }
+    ensures added { IfOk result (λ r. Adds terms.old terms.new r (taken (reading.Field field component) (tree_at terms.old id))) }
+    ensures refused { OnErr result (terms.new ≡ terms.old) }
+{
+    match reached(terms, Reading::Field(field, component), id) {
+        End::Part(part) => Ok(part),
+        End::Whole(whole) => terms.make(Node::Unary(UnaryOp::Field(field, component), whole)),
+    }
+}
+
+/// The element of a folded array at an index that is a literal in range.
+#[tactic(auto, using(crate::proofs::Folds::adds_laws))]
+fn element_of(
+    terms: &mut Terms,
+    array: ArrayType,
+    id: TermId,
+    index: TermId,
+    at: i128,
+) -> Result<TermId, AllocError>
+    requires within { (id.0 < length terms.old) × (index.0 < length terms.old) }
+    requires literal { tree_at terms.old index ≡ term.Number at }
+    ensures added { IfOk result (λ r. Adds terms.old terms.new r (taken (reading.Element array at) (tree_at terms.old id))) }
+    ensures refused { OnErr result (terms.new ≡ terms.old) }
+{
+    match reached(terms, Reading::Element(array, at), id) {
+        End::Part(part) => Ok(part),
+        End::Whole(whole) => terms.make(Node::Binary(BinaryOp::Element(array), whole, index)),
+    }
+}
+
+/// An operation on one folded term.
+#[tactic(auto, unfolding(spx_term::specs::Folding::simplified_unary), using(crate::proofs::Folds::adds_laws))]
+fn simplified_unary(terms: &mut Terms, op: UnaryOp, operand: TermId) -> Result<TermId, AllocError>
+    requires { operand.0 < length terms.old }
+    ensures added { IfOk result (λ id. Adds terms.old terms.new id (simplified_unary op (tree_at terms.old operand))) }
+    ensures refused { OnErr result (terms.new ≡ terms.old) }
+{
+    match op {
+        UnaryOp::Field(field, component) => { field_of(terms, field, component, operand) }
+        UnaryOp::In(id) => terms.make(Node::Unary(UnaryOp::In(id), operand)),
+        UnaryOp::Others(id) => terms.make(Node::Unary(UnaryOp::Others(id), operand)),
+    }
+}
+
+/// The element of a folded array at a folded index.
+#[tactic(auto, using(crate::proofs::Folds::adds_laws))]
+fn element(
+    terms: &mut Terms,
+    array: ArrayType,
+    left: TermId,
+    right: TermId,
+) -> Result<TermId, AllocError>
+    requires { (left.0 < length terms.old) × (right.0 < length terms.old) }
+    ensures added { IfOk result (λ id. Adds terms.old terms.new id (element_or (literal_of (tree_at terms.old right)) array (tree_at terms.old left) (tree_at terms.old right))) }
+    ensures refused { OnErr result (terms.new ≡ terms.old) }
+{
+    match literal_at(terms, right) {
+        Some(Literal::Number(index)) => {
+            if lies_between(array.first, array.last, index) {
+                return element_of(terms, array, left, right, index);
+            }
+            terms.make(Node::Binary(BinaryOp::Element(array), left, right))
+        }
+        Some(Literal::Truth(_)) => {
+            terms.make(Node::Binary(BinaryOp::Element(array), left, right))
+        }
+        None => terms.make(Node::Binary(BinaryOp::Element(array), left, right)),
+    }
+}
+
+/// An operation on a folded composite value and another folded term.
+#[tactic(auto, unfolding(spx_term::specs::Folding::simplified_binary), using(crate::proofs::Folds::adds_laws))]
+fn simplified_binary(
+    terms: &mut Terms,
+    op: BinaryOp,
+    left: TermId,
+    right: TermId,
+) -> Result<TermId, AllocError>
+    requires { (left.0 < length terms.old) × (right.0 < length terms.old) }
+    ensures added { IfOk result (λ id. Adds terms.old terms.new id (simplified_binary op (tree_at terms.old left) (tree_at terms.old right))) }
+    ensures refused { OnErr result (terms.new ≡ terms.old) }
+{
+    match op {
+        BinaryOp::Element(array) => element(terms, array, left, right),
+        BinaryOp::Update(field) => terms.make(Node::Binary(BinaryOp::Update(field), left, right)),
+        BinaryOp::Elements(id, low, high) => {
+            terms.make(Node::Binary(BinaryOp::Elements(id, low, high), left, right))
+        }
+        BinaryOp::Field(field) => terms.make(Node::Binary(BinaryOp::Field(field), left, right)),
+    }
+}
+
+/// An operation on three folded terms.
+#[tactic(auto, unfolding(spx_term::specs::Folding::simplified_ternary), using(crate::proofs::Folds::adds_laws))]
+fn simplified_ternary(
+    terms: &mut Terms,
+    op: TernaryOp,
+    first: TermId,
+    second: TermId,
+    third: TermId,
+) -> Result<TermId, AllocError>
+    requires { (first.0 < length terms.old) × (second.0 < length terms.old) × (third.0 < length terms.old) }
+    ensures added { IfOk result (λ id. Adds terms.old terms.new id (simplified_ternary op (tree_at terms.old first) (tree_at terms.old second) (tree_at terms.old third))) }
+    ensures refused { OnErr result (terms.new ≡ terms.old) }
+{
+    match op {
+        TernaryOp::Update(id) => {
+            terms.make(Node::Ternary(TernaryOp::Update(id), first, second, third))
+        }
+        TernaryOp::Quantified(quantifier, variable) => {
+            if is_empty(literal_at(terms, first), literal_at(terms, second)) {
+                return terms.make(Node::Truth(of_none(quantifier)));
+            }
+            let op = TernaryOp::Quantified(quantifier, variable);
+            terms.make(Node::Ternary(op, first, second, third))
+        }
     }
 }
 
@@ -167,6 +381,25 @@ fn fold_node(terms: &mut Terms, folds: &[TermId], at: TermId) -> Result<TermId, 
         }
         Node::Infix(op, left, right) => {
             let id = simplified(terms, op, folds[left.0], folds[right.0])?;
+            Ok(id)
+        }
+        Node::Blank(_) => Ok(at),
+        Node::Unary(op, operand) => {
+            let id = simplified_unary(terms, op, folds[operand.0])?;
+            Ok(id)
+        }
+        Node::Binary(op, left, right) => {
+            let id = simplified_binary(terms, op, folds[left.0], folds[right.0])?;
+            Ok(id)
+        }
+        Node::Ternary(op, first, second, third) => {
+            let id = simplified_ternary(
+                terms,
+                op,
+                folds[first.0],
+                folds[second.0],
+                folds[third.0],
+            )?;
             Ok(id)
         }
     }

@@ -73,6 +73,10 @@ fn settle(known: &mut Known, terms: &Terms, goal: TermId) -> Result<Verdict, All
         Node::Number(_) => Ok(Verdict::Settled(false)),
         Node::Variable(_) => Ok(Verdict::Settled(false)),
         Node::Prefix(_, _) => Ok(Verdict::Settled(false)),
+        Node::Blank(_) => Ok(Verdict::Settled(false)),
+        Node::Unary(_, _) => Ok(Verdict::Settled(false)),
+        Node::Binary(_, _, _) => Ok(Verdict::Settled(false)),
+        Node::Ternary(_, _, _, _) => Ok(Verdict::Settled(false)),
     }
 }
 

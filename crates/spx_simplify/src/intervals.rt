@@ -3,12 +3,12 @@ ghost use Rattle.std.specs.Prelude.{◌≡◌, pos, ◌-ℤ◌, ◌≤ℤ◌, in
 ghost use Rattle.std.specs.Ordering.{int_eq};
 ghost use Rattle.spx_num.specs.Exact.{exact, absolute};
 ghost use Rattle.spx_num.specs.Widths.{fitting};
-ghost use Rattle.spx_term.specs.Intervals.{unbounded, point, sum_of, difference_of, end_of, higher, lower, meet, lesser, greater, up_to_magnitude, quotient_of, nearer_than, remainder_of, modulus_of, farthest, absolute_of, allowed, mirrored, structural, structural_prefix};
+ghost use Rattle.spx_term.specs.Intervals.{unbounded, point, sum_of, difference_of, end_of, higher, lower, meet, lesser, greater, up_to_magnitude, quotient_of, nearer_than, remainder_of, modulus_of, farthest, absolute_of, allowed, mirrored, range_of, structural, structural_binary, structural_prefix, structural_unary};
 ghost use Rattle.spx_term.specs.Plain.{ends_meet, settled};
 
 use crate::products::product;
 use spx_num::{Op, checked};
-use spx_term::{Interval, TermOp, TermPrefix, Value};
+use spx_term::{BinaryOp, Component, Interval, Literal, TermOp, TermPrefix, UnaryOp};
 
 /// All numbers.
 pub const UNBOUNDED: Interval = Interval {
@@ -18,7 +18,7 @@ pub const UNBOUNDED: Interval = Interval {
 
 /// The interval of an operation on terms of these intervals, where the right one is a literal of this value, or none.
 #[tactic(auto, unfolding(spx_term::specs::Intervals::structural))]
-pub fn structural(op: TermOp, left: Interval, right: Interval, literal: Option<Value>) -> Interval
+pub fn structural(op: TermOp, left: Interval, right: Interval, literal: Option<Literal>) -> Interval
     ensures { result ≡ structural op left right literal }
 {
     match op {
@@ -41,6 +41,57 @@ pub fn structural_prefix(op: TermPrefix, operand: Interval) -> Interval
         TermPrefix::Minus => difference(point(0), operand),
         TermPrefix::Abs => absolute(operand),
         TermPrefix::Not => UNBOUNDED,
+    }
+}
+
+/// The numbers of the type of a component.
+fn range_of(component: Component) -> Interval
+    ensures { result ≡ range_of component }
+{
+    match component {
+        Component::Integer(low, high) => Interval {
+            low: Some(low),
+            high: Some(high),
+        },
+        Component::Boolean => UNBOUNDED,
+        Component::Composite(_) => UNBOUNDED,
+    }
+}
+
+/// The interval of an operation on a composite value, which is in its type or not.
+#[tactic(auto, unfolding(spx_term::specs::Intervals::structural_unary))]
+pub fn structural_unary(op: UnaryOp, typed: bool) -> Interval
+    ensures { result ≡ structural_unary op typed }
+{
+    match op {
+        UnaryOp::Field(_, component) => {
+            if typed {
+                range_of(component)
+            } else {
+                UNBOUNDED
+            }
+        }
+        UnaryOp::In(_) => UNBOUNDED,
+        UnaryOp::Others(_) => UNBOUNDED,
+    }
+}
+
+/// The interval of an operation on a composite value, which is in its type or not, and another term.
+#[tactic(auto, unfolding(spx_term::specs::Intervals::structural_binary))]
+pub fn structural_binary(op: BinaryOp, typed: bool) -> Interval
+    ensures { result ≡ structural_binary op typed }
+{
+    match op {
+        BinaryOp::Element(array) => {
+            if typed {
+                range_of(array.element)
+            } else {
+                UNBOUNDED
+            }
+        }
+        BinaryOp::Update(_) => UNBOUNDED,
+        BinaryOp::Elements(_, _, _) => UNBOUNDED,
+        BinaryOp::Field(_) => UNBOUNDED,
     }
 }
 
@@ -130,23 +181,23 @@ fn around_zero(low: i128) -> Interval
 }
 
 /// A remainder is nearer to 0 than a divisor that is not 0.
-fn nearer_than(divisor: Option<Value>) -> Interval
+fn nearer_than(divisor: Option<Literal>) -> Interval
     ensures { result ≡ nearer_than divisor }
 {
     match divisor {
-        Some(Value::Number(value)) => {
+        Some(Literal::Number(value)) => {
             if value == 0 {
                 return UNBOUNDED;
             }
             around_zero(minus_magnitude(value) + 1)
         }
-        Some(Value::Truth(_)) => UNBOUNDED,
+        Some(Literal::Truth(_)) => UNBOUNDED,
         None => UNBOUNDED,
     }
 }
 
 /// A remainder lies between 0 and the dividend.
-fn remainder(left: Interval, divisor: Option<Value>) -> Interval
+fn remainder(left: Interval, divisor: Option<Literal>) -> Interval
     ensures { result ≡ remainder_of left divisor }
 {
     meet(with_zero(left), nearer_than(divisor))

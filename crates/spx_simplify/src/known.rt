@@ -1,22 +1,50 @@
 // What facts say of terms, in tables by their ids.
 ghost use Rattle.std.specs.Prelude.{◌≡◌, ◌<◌, ◌++◌, ℕ, List, [], ◌∷◌, length, if◌then◌else◌, eqb, IfOk, OnOk, MatchOption};
 ghost use Rattle.spx_term.specs.declared.term.Term.{Term};
-ghost use Rattle.spx_term.specs.Intervals.{bounds_before, bounded, interval, meet};
+ghost use Rattle.spx_term.specs.Intervals.{bounds_before, bounded, interval, is_typed, meet};
 ghost use Rattle.spx_arena.specs.Sharing.{tree_at, tree_in, Below};
 ghost use Rattle.spx_simplify.specs.Folds.{place_of};
-ghost use Rattle.spx_simplify.specs.Tables.{interval_at, test_at, IsAt, IsMade, Ready, Gives, Placed, Sized, Knows, Forgets, Sets, set_to, Restores, Keeps, HasForm};
+ghost use Rattle.spx_simplify.specs.Tables.{interval_at, test_at, IsAt, IsMade, Ready, Gives, Placed, Sized, Knows, Forgets, Sets, set_to, Says, said_to, Reads, ReadsNone, Restores, Keeps, HasForm};
 
 use crate::folding::literal_at;
 use crate::intervals::{
-    UNBOUNDED, meet, mirrored, numbers_to, point, structural, structural_prefix,
+    UNBOUNDED, meet, mirrored, numbers_to, point, structural, structural_binary, structural_prefix,
+    structural_unary,
 };
 use spx_arena::{Node, TermId, Terms};
-use spx_term::{Interval, TermOp};
+use spx_term::{BinaryOp, Interval, TermOp, UnaryOp};
 use sqlite_items::Items;
 use std::alloc::{AllocError, Global};
 
 /// How deep a call on a term may call itself on the parts of the term.
 pub const MOST_DEPTH: u32 = 500;
+
+/// The composite value of which a term reads a component.
+fn whole_of(terms: &Terms, id: TermId) -> Option<TermId>
+    requires { id.0 < length terms.now }
+    ensures { MatchOption result (ReadsNone terms.now id) (Reads terms.now id) }
+{
+    match terms.node(id) {
+        Node::Unary(op, operand) => match op {
+            UnaryOp::Field(_, _) => return Some(operand),
+            UnaryOp::In(_) => return None,
+            UnaryOp::Others(_) => return None,
+        },
+        Node::Binary(op, left, _) => match op {
+            BinaryOp::Element(_) => return Some(left),
+            BinaryOp::Update(_) => return None,
+            BinaryOp::Elements(_, _, _) => return None,
+            BinaryOp::Field(_) => return None,
+        },
+        Node::Number(_) => return None,
+        Node::Truth(_) => return None,
+        Node::Variable(_) => return None,
+        Node::Prefix(_, _) => return None,
+        Node::Infix(_, _, _) => return None,
+        Node::Blank(_) => return None,
+        Node::Ternary(_, _, _, _) => return None,
+    }
+}
 
 /// The interval of a term.
 #[derive(Clone, Copy)]
@@ -32,6 +60,8 @@ pub struct Known {
     facts: Items<bool>,
     /// The meet of the bounds that they set to it.
     bounds: Items<Interval>,
+    /// Whether one of them says that it is in its type.
+    said: Items<bool>,
     /// The place of its interval among those that are made, if it is there.
     places: Items<usize>,
     /// The intervals that are made, each after those of the parts of its term.
@@ -47,6 +77,8 @@ pub struct Change {
     /// The bounds of its operands, where it has two.
     left: Interval,
     right: Interval,
+    /// Whether a fact said that its operand is in its type, where it has one.
+    said: bool,
 }
 
 impl Known {
@@ -57,16 +89,19 @@ impl Known {
     {
         let mut facts = Items::new(alloc);
         let mut bounds = Items::new(alloc);
+        let mut said = Items::new(alloc);
         let mut places = Items::new(alloc);
         for at in 0..count {
             let _ = at;
             facts.push(false)?;
             bounds.push(UNBOUNDED)?;
+            said.push(false)?;
             places.push(0)?;
         }
         Ok(Known {
             facts,
             bounds,
+            said,
             places,
             made: Vec::new(alloc),
         })
@@ -142,6 +177,28 @@ impl Known {
         self.forget(id);
     }
 
+    /// Whether a fact says that a term is in its type.
+    fn said_at(&self, id: TermId) -> bool
+        requires { id.0 < length self.now.said }
+        ensures { result ≡ test_at self.now.said id.0 }
+    {
+        self.said.as_slice()[id.0]
+    }
+
+    /// Notes whether a fact says that a term is in its type.
+    fn set_said(&mut self, id: TermId, said: bool)
+        requires said { id.0 < length self.old.said }
+        requires places { id.0 < length self.old.places }
+        requires placed { Placed self.old }
+        ensures { (n : ℕ) → Sized n self.old → Says n self.old self.new (said_to self.old.said id said) }
+    {
+        if self.said_at(id) == said {
+            return;
+        }
+        self.said.set(id.0, said);
+        self.forget(id);
+    }
+
     /// Sets the bounds that `left op right` sets to `left` where `right` is a literal.
     fn bound_before(&mut self, terms: &Terms, op: TermOp, left: TermId, right: TermId)
         requires within { (left.0 < length terms.now) × (right.0 < length terms.now) }
@@ -175,6 +232,17 @@ impl Known {
             Node::Truth(_) => return,
             Node::Variable(_) => return,
             Node::Prefix(_, _) => return,
+            Node::Blank(_) => return,
+            Node::Unary(op, operand) => match op {
+                UnaryOp::In(_) => {
+                    self.set_said(operand, true);
+                    return;
+                }
+                UnaryOp::Field(_, _) => return,
+                UnaryOp::Others(_) => return,
+            },
+            Node::Binary(_, _, _) => return,
+            Node::Ternary(_, _, _, _) => return,
         }
     }
 
@@ -186,19 +254,30 @@ impl Known {
         ensures restores { (hyps : List Term) → Knows terms.now hyps self.now → Restores terms.now hyps result }
     {
         let was = self.has(fact);
-        if let Node::Infix(_, left, right) = terms.node(fact) {
-            return Change {
-                fact,
-                was,
-                left: self.bounds_at(left),
-                right: self.bounds_at(right),
-            };
-        }
-        Change {
+        let change = Change {
             fact,
             was,
             left: UNBOUNDED,
             right: UNBOUNDED,
+            said: false,
+        };
+        match terms.node(fact) {
+            Node::Infix(_, left, right) => Change {
+                left: self.bounds_at(left),
+                right: self.bounds_at(right),
+                ..change
+            },
+            Node::Unary(_, operand) => Change {
+                said: self.said_at(operand),
+                ..change
+            },
+            Node::Number(_) => change,
+            Node::Truth(_) => change,
+            Node::Variable(_) => change,
+            Node::Prefix(_, _) => change,
+            Node::Blank(_) => change,
+            Node::Binary(_, _, _) => change,
+            Node::Ternary(_, _, _, _) => change,
         }
     }
 
@@ -222,6 +301,17 @@ impl Known {
             Node::Truth(_) => return,
             Node::Variable(_) => return,
             Node::Prefix(_, _) => return,
+            Node::Blank(_) => return,
+            Node::Unary(op, operand) => match op {
+                UnaryOp::In(_) => {
+                    self.set_said(operand, change.said);
+                    return;
+                }
+                UnaryOp::Field(_, _) => return,
+                UnaryOp::Others(_) => return,
+            },
+            Node::Binary(_, _, _) => return,
+            Node::Ternary(_, _, _, _) => return,
         }
     }
 
@@ -237,10 +327,31 @@ impl Known {
         }
     }
 
+    /// Whether a term is in its type: a fact says so, or it is a component of a term that is.
+    fn is_typed(&self, terms: &Terms, id: TermId) -> bool
+        requires within { id.0 < length terms.now }
+        requires sized { Sized (length terms.now) self.now }
+        ensures { (hyps : List Term) → Knows terms.now hyps self.now → result ≡ is_typed hyps (tree_at terms.now id) }
+    {
+        let mut at = id;
+        'component: loop {
+            if self.said_at(at) {
+                return true;
+            }
+            match whole_of(terms, at) {
+                Some(whole) => {
+                    at = whole;
+                    continue 'component;
+                }
+                None => return false,
+            }
+        }
+    }
+
     /// The interval of the form of a term, where those of its parts are made.
     fn structural(&self, terms: &Terms, node: Node) -> Interval
         requires below { Below (length terms.now) node }
-        requires placed { Placed self.now }
+        requires sized { Sized (length terms.now) self.now }
         requires ready { Ready self.now.made.items (length self.now.made.items) node }
         ensures { (hyps : List Term) → Knows terms.now hyps self.now → interval hyps (tree_in terms.now node) ≡ bounded result hyps (tree_in terms.now node) }
     {
@@ -252,8 +363,12 @@ impl Known {
                 let high = self.part(right);
                 structural(op, low, high, literal_at(terms, right))
             }
+            Node::Unary(op, operand) => structural_unary(op, self.is_typed(terms, operand)),
+            Node::Binary(op, left, _) => structural_binary(op, self.is_typed(terms, left)),
             Node::Truth(_) => UNBOUNDED,
             Node::Variable(_) => UNBOUNDED,
+            Node::Blank(_) => UNBOUNDED,
+            Node::Ternary(_, _, _, _) => UNBOUNDED,
         }
     }
 
@@ -327,9 +442,21 @@ impl Known {
                 let interval = self.make(terms, id, node)?;
                 Ok(interval)
             }
+            Node::Unary(_, operand) => {
+                self.interval(terms, operand, depth - 1)?;
+                let interval = self.make(terms, id, node)?;
+                Ok(interval)
+            }
+            Node::Binary(_, left, _) => {
+                self.interval(terms, left, depth - 1)?;
+                let interval = self.make(terms, id, node)?;
+                Ok(interval)
+            }
             Node::Number(_) => self.make(terms, id, node),
             Node::Truth(_) => self.make(terms, id, node),
             Node::Variable(_) => self.make(terms, id, node),
+            Node::Blank(_) => self.make(terms, id, node),
+            Node::Ternary(_, _, _, _) => self.make(terms, id, node),
         }
     }
 }

@@ -1,5 +1,5 @@
 -- The conditions of a typed program are well sorted, so those that need no proof are valid.
-use Rattle.std.proofs.Common.{◌≡◌, ◌&&◌, ◌++◌, ℕ, ℤ, ◌+◌, Bool, true, false, if◌then◌else◌, List, [], ◌∷◌, get_or, map, Option, Some, None, Ok, refl, sym, ap, ap₂, ◌∙◌}
+use Rattle.std.proofs.Common.{◌≡◌, ◌&&◌, ◌++◌, ℕ, ℤ, ◌+◌, Bool, true, false, if◌then◌else◌, List, [], ◌∷◌, get_or, map, Option, Some, None, Ok, refl, ap, ◌∙◌}
 use Rattle.std.specs.Prelude.{All, option_map}
 use Rattle.std.specs.List.{AllByRecursion, flat_map}
 use Rattle.std.proofs.lemmas.List.Elements.{All-from_recursion, recursion_from_All}
@@ -33,8 +33,8 @@ use Rattle.spx_term.specs.Conjuncts.{conjuncts}
 use Rattle.spx_term.specs.Goals.{goal_of}
 use Rattle.spx_term.specs.Meaning.{Valid}
 use Rattle.spx_term.specs.Plain.{Plain}
-use Rattle.spx_term.specs.Sorts.{one, both, sort_of_prefix, sort_of_op, sort_step, sort_of}
-use Rattle.spx_term.specs.Steps.{Tree, Cut, Assume, Assign, Fresh, Prove, Split, assume_all, same_name, substituted_step, substituted, Claim, with_fact, with_value, claims_of, without_doubles, tidy}
+use Rattle.spx_term.specs.Sorts.{sort_step}
+use Rattle.spx_term.specs.Steps.{Tree, Cut, Assume, Assign, Fresh, Prove, Split, assume_all, substituted, Claim, with_fact, with_value, claims_of, without_doubles, tidy}
 use Rattle.spx_term.proofs.ConjunctLaws.{conjuncts_sorted}
 use Rattle.spx_term.proofs.PlainLaws.{plain_valid}
 use Rattle.spx_term.proofs.Terms as terms
@@ -48,8 +48,10 @@ use Rattle.spx_paths.specs.Fit.{IsValid, HasValidConditions, Fit, Clean}
 use Rattle.spx_core.proofs.Callers.ListTests.{each_append}
 use Rattle.spx_sound.proofs.Typings.{test_typed, right_side, IsTyped, both_typed, arms_typed, TypedSub, typed_subs, AreTyped, last_typed, when_typed, select_typed}
 use Rattle.spx_sound.proofs.SortedTerms.{HasSortOf, now_sorted, entry_sorted, boolean_sort, right_sort, sorted_with, ordered_sort, literal_of_type}
+use Rattle.spx_term.proofs.SubstitutionLaws.{substitution_keeps_sorts}
+use Rattle.spx_sound.proofs.Closed.{code_closed, static_closed, variable_closed}
 use Rattle.spx_sound.proofs.NeverBadTrees.{each_flat_map, each_without_doubles}
-use Rattle.spx_sound.proofs.NeverBadStores.{same_name-Decides}
+use Rattle.spx_formula.specs.Looks.{no_composites}
 use Rattle.spx_sound.proofs.SortedTrees.{IsFormula, AreFormulas, IsSortedTree, IsSortedCount, HeadIsSorted, head_sorted, into_loop_sorted, again_sorted, leaving_sorted, count_facts_sorted, assume_sorted, in_type_sorted, goal_sorted, checks_sorted, test_sorted, decided_sorted, asserted_sorted, assigned_sorted, facts_sorted, these_sorted}
 
 -- ---- commands
@@ -71,7 +73,7 @@ module _ (p : Program) (sub : Sub) where
       let right = right_side target e typed in
       let whole = checks_sorted p (now_term p) (now_sorted p) e right.typing right.typed (recursion_from_All (IsAsDeclared p) (names_read e) declared.1) in
       let o = variable_of target.root.entity in
-      whole.checks [] tt (assigned p (place_of e) o t rest) (assigned_sorted p (place_of e) o t rest (λ v is. whole.sorted ∙ ap Some (right_sort p target e declared.0 right v is)) k)
+      whole.checks [] tt (assigned p (place_of e) o t rest) (assigned_sorted p (place_of e) o t rest (λ v is. whole.sorted ∙ ap Some (right_sort p target e declared.0 right v is)) (code_closed p e) k)
 
   mutual
     walk_sorted : (c : Command) (rest leave : ℕ → Tree) → IsTyped c → AreAsDeclared p c → AreSortedTrees rest → AreSortedTrees leave → AreSortedTrees (walk p sub c rest leave)
@@ -114,7 +116,7 @@ module _ (p : Program) (sub : Sub) where
 
 -- ---- cuts
 
-abbrev AllSorted : List Tree → Type 0
+abbrev pub AllSorted : List Tree → Type 0
 AllSorted trees = AllByRecursion IsSortedTree trees
 
 -- these loops have numbers
@@ -137,12 +139,12 @@ module _ (p : Program) (sub : Sub) (known_sorted : (within : List CoreCount) →
   noted_cut_sorted : (within : List CoreCount) (kind : AssertionKind) (e : CoreExpr) (rest : Tree) → AreSortedCounts p within → test e ≡ Ok tt → All (IsAsDeclared p) (names_read e) → IsSortedTree rest → AllSorted (noted_cut p sub within kind e rest)
   noted_cut_sorted within assertion.Assert e rest around typed declared k =
       let t = term_of p (entry_term p sub) e in
-      (from_cut_sorted within (conjuncts t) rest around (conjuncts_sorted t (test_sorted p (entry_term p sub) (entry_sorted p sub) e typed declared).formula) k, tt)
+      (from_cut_sorted within (conjuncts t) rest around (conjuncts_sorted no_composites t (test_sorted p (entry_term p sub) (entry_sorted p sub) e typed declared).formula) k, tt)
   noted_cut_sorted within assertion.Check e rest around typed declared k = tt
 
   loop_cut_sorted : (within : List CoreCount) (own : Bool) (rest : Tree) → AreSortedCounts p within → IsSortedTree rest → AllSorted (loop_cut p sub within own rest)
   loop_cut_sorted within true rest around k = tt
-  loop_cut_sorted within false rest around k = (from_cut_sorted within (term.Truth true ∷ []) rest around (terms.fold-Truth sort_step true, tt) k, tt)
+  loop_cut_sorted within false rest around k = (from_cut_sorted within (term.Truth true ∷ []) rest around (terms.fold-Truth (sort_step no_composites) true, tt) k, tt)
 
   -- the trees from the cuts in a command are sorted
   mutual
@@ -192,19 +194,19 @@ module _ (p : Program) (sub : Sub) where
   import_facts_sorted v = by_import (imports v sub)
     where
       by_import : (b : Bool) → AreFormulas (if b then in_type (type_of p v) (now_term p v) else [])
-      by_import true = in_type_sorted (type_of p v) (now_term p v) (terms.fold-Variable sort_step (now p v))
+      by_import true = in_type_sorted (type_of p v) (now_term p v) (terms.fold-Variable (sort_step no_composites) (now p v))
       by_import false = tt
 
   pre_sorted : (pre : Option CorePredicate) → ((it : CorePredicate) → pre ≡ Some it → All (IsAsDeclared p) (names_read it.condition)) → if_there judged_predicate pre ≡ Ok tt → AreFormulas (pre_facts p sub pre)
   pre_sorted None declared typed = tt
   pre_sorted (Some pre) declared typed =
-      conjuncts_sorted (term_of p (entry_term p sub) pre.condition) (test_sorted p (entry_term p sub) (entry_sorted p sub) pre.condition typed (declared pre refl)).formula
+      conjuncts_sorted no_composites (term_of p (entry_term p sub) pre.condition) (test_sorted p (entry_term p sub) (entry_sorted p sub) pre.condition typed (declared pre refl)).formula
 
   entry_facts_sorted : (v : VarId) → AreFormulas (entry_facts p sub v)
   entry_facts_sorted v = by_relation (imports v sub && exports v sub)
     where
       by_relation : (b : Bool) → AreFormulas (if b then in_type (type_of p v) (term.Variable (entry p v)) else [])
-      by_relation true = in_type_sorted (type_of p v) (term.Variable (entry p v)) (terms.fold-Variable sort_step (entry p v))
+      by_relation true = in_type_sorted (type_of p v) (term.Variable (entry p v)) (terms.fold-Variable (sort_step no_composites) (entry p v))
       by_relation false = tt
 
   var_facts_sorted : (v : VarId) → AreFormulas (var_facts p v)
@@ -216,7 +218,7 @@ module _ (p : Program) (sub : Sub) where
       let of = test_typed pre.condition typed in
       let sorts = entry_sorted p sub in
       let sorted = sorted_with p (entry_term p sub) (entry_term p sub) sorts sorts pre.condition of.0 of.1 (recursion_from_All (IsAsDeclared p) (names_read pre.condition) (declared pre refl)) in
-      conjuncts_sorted (term_with (entry_term p sub) (entry_term p sub) pre.condition) (sorted ∙ ap Some (boolean_sort of.0.of of.2))
+      conjuncts_sorted no_composites (term_with (entry_term p sub) (entry_term p sub) pre.condition) (sorted ∙ ap Some (boolean_sort of.0.of of.2))
 
   all_count_facts_sorted : (within : List CoreCount) → AreSortedCounts p within → AreFormulas (flat_map (count_facts p sub) within)
   all_count_facts_sorted [] around = tt
@@ -239,14 +241,14 @@ module _ (p : Program) (sub : Sub) where
   entering_sorted (v ∷ vars) rest k = by_export (exports v sub) (entering_sorted vars rest k)
     where
       by_export : (b : Bool) → IsSortedTree (entering p sub vars rest) → IsSortedTree (if b then Assign (now p v) (term.Variable (entry p v)) (entering p sub vars rest) else entering p sub vars rest)
-      by_export true k = (terms.fold-Variable sort_step (entry p v), k)
+      by_export true k = (terms.fold-Variable (sort_step no_composites) (entry p v), ((refl, variable_closed (entry p v) refl), k))
       by_export false k = k
 
   starting_sorted : (v : VarId) (rest : Tree) → IsSortedTree rest → IsSortedTree (starting_with (now p v) (initial_value p v) rest)
   starting_sorted v rest k = by_value (initial_of v p)
     where
       by_value : (o : Option ℤ) → IsSortedTree (starting_with (now p v) (option_map (value_in_type (type_of p v)) o) rest)
-      by_value (Some n) = (literal_of_type (Of (type_of p v).base) n, k)
+      by_value (Some n) = (literal_of_type (Of (type_of p v).base) n, ((refl, static_closed (value_in_type (type_of p v) n)), k))
       by_value None = k
 
   initializing_sorted : (vars : List VarId) (rest : Tree) → IsSortedTree rest → IsSortedTree (initializing p vars rest)
@@ -266,7 +268,7 @@ module _ (p : Program) (sub : Sub) where
       (each_append IsFormula (flat_map (import_facts p sub) (formals sub)) (pre_facts p sub sub.pre) (each_flat_map IsFormula (import_facts p sub) import_facts_sorted (formals sub)) (pre_sorted sub.pre scoped.pre_names typed.pre))
       (walk_sorted p sub (commands sub.statements) (ending p sub) (ending p sub) typed.statements scoped.body_names last last 0)))
 
-  all_sorted : Scoped p sub → TypedSub sub → AllSorted (trees_of p sub)
+  pub all_sorted : Scoped p sub → TypedSub sub → AllSorted (trees_of p sub)
   all_sorted scoped typed =
       let last = last_sorted scoped typed in
       (start_sorted scoped typed, cuts_sorted p sub (cut_facts_sorted scoped typed) [] (commands sub.statements) (ending p sub) (ending p sub) tt typed.statements scoped.body_names last last)
@@ -277,33 +279,9 @@ abbrev IsSortedClaim : Claim → Type 0
 IsSortedClaim c = AreFormulas c.hyps × AreFormulas c.goals
 
 module _ (x : Symbolic) (t : Term) (same : HasSortOf x.sort t) where
-  abbrev KeepsSort : Term → Type 0
-  KeepsSort u = sort_of (substituted x t u) ≡ sort_of u
-
-  of_variable : (y : Symbolic) (b : Bool) → same_name x y ≡ b → sort_of (if b then t else term.Variable y) ≡ Some y.sort
-  of_variable y true is = same ∙ ap (λ (z : Symbolic). Some z.sort) ((same_name-Decides x y).0 is)
-  of_variable y false is = terms.fold-Variable sort_step y
-
-  keeps_cases : terms.Cases KeepsSort
-  keeps_cases = record {
-    number = λ n. ap sort_of (terms.fold-Number (substituted_step x t) n);
-    truth = λ b. ap sort_of (terms.fold-Truth (substituted_step x t) b);
-    variable = λ y. ap sort_of (terms.fold-Variable (substituted_step x t) y) ∙ of_variable y (same_name x y) refl ∙ sym (terms.fold-Variable sort_step y);
-    prefix = λ o a p.
-        ap sort_of (terms.fold-Prefix (substituted_step x t) o a) ∙ terms.fold-Prefix sort_step o (substituted x t a)
-        ∙ ap (one (sort_of_prefix o)) p ∙ sym (terms.fold-Prefix sort_step o a);
-    «infix» = λ o a b p q.
-        ap sort_of (terms.fold-Infix (substituted_step x t) o a b) ∙ terms.fold-Infix sort_step o (substituted x t a) (substituted x t b)
-        ∙ ap₂ (both (sort_of_op o)) p q ∙ sym (terms.fold-Infix sort_step o a b);
-  }
-
-  -- a term with t in the place of x keeps its sort
-  keeps_sort : (u : Term) → KeepsSort u
-  keeps_sort = terms.induct KeepsSort keeps_cases
-
   formulas_kept : (us : List Term) → AreFormulas us → AreFormulas (map (substituted x t) us)
   formulas_kept [] h = tt
-  formulas_kept (u ∷ us) h = (keeps_sort u ∙ h.0, formulas_kept us h.1)
+  formulas_kept (u ∷ us) h = (substitution_keeps_sorts no_composites x t u same ∙ h.0, formulas_kept us h.1)
 
   claims_kept : (cs : List Claim) → AllByRecursion IsSortedClaim cs → AllByRecursion IsSortedClaim (map (with_value x t) cs)
   claims_kept [] h = tt
@@ -316,14 +294,14 @@ with_fact_sorted t (c ∷ cs) f h = (((f, h.0.0), h.0.1), with_fact_sorted t cs 
 claims_sorted : (tree : Tree) → IsSortedTree tree → AllByRecursion IsSortedClaim (claims_of tree)
 claims_sorted Cut h = tt
 claims_sorted (Assume t rest) h = with_fact_sorted t (claims_of rest) h.0 (claims_sorted rest h.1)
-claims_sorted (Assign x t rest) h = claims_kept x t h.0 (claims_of rest) (claims_sorted rest h.1)
+claims_sorted (Assign x t rest) h = claims_kept x t h.0 (claims_of rest) (claims_sorted rest h.1.1)
 claims_sorted (Fresh x rest) h = claims_sorted rest h
 claims_sorted (Prove kind place goals rest) h = ((tt, h.0), claims_sorted rest h.1)
 claims_sorted (Split first second) h = each_append IsSortedClaim (claims_of first) (claims_of second) (claims_sorted first h.0) (claims_sorted second h.1)
 
-plain_is_valid : (hyps goals : List Term) → AreFormulas hyps → AreFormulas goals → Plain (without_doubles hyps) (goal_of goals) → Valid (without_doubles hyps) (goal_of goals)
+plain_is_valid : (hyps goals : List Term) → AreFormulas hyps → AreFormulas goals → Plain (without_doubles hyps) (goal_of goals) → Valid no_composites (without_doubles hyps) (goal_of goals)
 plain_is_valid hyps goals hyps_sorted goals_sorted plain =
-    plain_valid (without_doubles hyps) (goal_of goals) (All-from_recursion IsFormula (without_doubles hyps) (each_without_doubles IsFormula [] hyps tt hyps_sorted)) (goal_sorted goals goals_sorted) plain
+    plain_valid no_composites (without_doubles hyps) (goal_of goals) (All-from_recursion IsFormula (without_doubles hyps) (each_without_doubles IsFormula [] hyps tt hyps_sorted)) (goal_sorted goals goals_sorted) plain
 
 abbrev IsPlain : Condition → Type 0
 IsPlain c = Plain c.hyps (goal_of c.goals)

@@ -1,5 +1,6 @@
 pub mod Classes
 pub mod Typings
+pub mod Closed
 pub mod NeverBadTrees
 pub mod SortedTerms
 pub mod NeverBadRuns

@@ -29,17 +29,22 @@ use Rattle.spx_core.specs.Types.{has_truths, is_between, is_true}
 use Rattle.spx_core.specs.Ways.{Goes}
 use Rattle.spx_term.specs.declared.condition.CondKind.TheVariants.{Post as PostCondition}
 use Rattle.spx_term.specs.declared.term.Sort.{Sort}
-use Rattle.spx_term.specs.declared.term.Sort.TheVariants.{Integer, Boolean}
+use Rattle.spx_term.specs.declared.value.Shape.{Shape-F}
+use Rattle.spx_term.specs.declared.value.Shape.TheVariants as shape
+use Rattle.spx_term.specs.Values.{is_truth}
+use Rattle.spx_term.proofs.ValueLaws.{is_in-layer}
+use Rattle.spx_term.specs.declared.term.Sort.TheVariants.{Integer, Boolean, Composite}
 use Rattle.spx_term.specs.declared.term.Symbol.{Symbol}
-use Rattle.spx_term.specs.declared.term.Symbol.TheVariants.{Now, Entry, First, Last}
+use Rattle.spx_term.specs.declared.term.Symbol.TheVariants.{Now, Entry, First, Last, Bound}
 use Rattle.spx_term.specs.declared.term.Name.{Name}
 use Rattle.spx_term.specs.declared.term.Term.TheVariants.{Variable}
 use Rattle.spx_term.specs.declared.value.Value.{Value}
 use Rattle.spx_term.specs.declared.value.Value.TheVariants as value
-use Rattle.spx_term.specs.Meaning.{as_number, as_truth, Valuation, value_step, value_of, HasSort, Holds, Respects}
-use Rattle.spx_term.specs.Steps.{Tree, Cut, Assign, assume_all, same_name}
-use Rattle.spx_term.specs.Folding.{term_of as static_term}
-use Rattle.spx_term.proofs.Terms.{fold-Variable}
+use Rattle.spx_term.specs.Meaning.{as_number, as_truth, Valuation, value_of, HasSort, Holds, Respects}
+use Rattle.spx_term.specs.Steps.{Tree, Cut, Assign, assume_all}
+use Rattle.spx_term.specs.Equality.{same_name}
+use Rattle.spx_term.specs.Folding.{static_term}
+use Rattle.spx_term.proofs.Terms.{value-Variable}
 use Rattle.spx_meaning.specs.declared.bad.BadKind.TheVariants.{Pre, Post, Unset}
 use Rattle.spx_meaning.specs.Stores.{Store, look, type_of, first_of_class, is_in, is_within, declared, put, reading, seen}
 use Rattle.spx_meaning.specs.Frames.{Frame, around}
@@ -57,12 +62,15 @@ use Rattle.spx_paths.specs.Walks.{ending, ending_with, entering, first_facts, im
 use Rattle.spx_paths.specs.Fit.{HasValidConditions, Fit}
 use Rattle.spx_core.proofs.Callers.ListTests.{each_append}
 use Rattle.spx_sound.proofs.Typings.{TypedSub, typed_subs}
+use Rattle.spx_sound.proofs.CleanConditions.{all_sorted}
 use Rattle.spx_sound.proofs.NeverBadTrees.{AllHold, changed, Safe, each_flat_map, assumed, safe_sub}
 use Rattle.spx_sound.proofs.NeverBadRuns.{Never, Nowhere, Good, good_then, good_demand, joined}
-use Rattle.spx_sound.proofs.NeverBadExpressions.{type_facts, AgreesWith, static_term_value}
+use Rattle.spx_sound.proofs.NeverBadExpressions.{type_facts, AgreesWith, IsScalar, static_term_value}
 use Rattle.spx_sound.proofs.NeverBadAnnotations.{now_terms, parts_where_true}
 use Rattle.spx_sound.proofs.Extents.{AreInTypes}
-use Rattle.spx_sound.proofs.NeverBadStores.{same_name-Decides, Fits, Reaches, Spares, asserted_good}
+use Rattle.spx_term.proofs.Equality.{same_name-Decides}
+use Rattle.spx_formula.specs.Looks.{no_composites}
+use Rattle.spx_sound.proofs.NeverBadStores.{Fits, Reaches, Spares, asserted_good}
 use Rattle.spx_sound.proofs.NeverBadLoops.{Began}
 use Rattle.spx_sound.proofs.NeverBadBodies.{walk_good}
 use Rattle.spx_sound.proofs.UnsetWays.{CountsUnset, IsClear, KeepsUnset, Passes, reaches_reads}
@@ -75,30 +83,38 @@ symbol_value p s (Now k) = reading p s (record { 0 = k })
 symbol_value p s (Entry k) = reading p s (record { 0 = k })
 symbol_value p s (First k) = value.Number (pos 0)
 symbol_value p s (Last k) = value.Number (pos 0)
+symbol_value p s (Bound b) = value.Number (pos 0)
 
 abbrev of_sort : Sort → Value → Value
 of_sort Integer w = value.Number (as_number w)
 of_sort Boolean w = value.Truth (as_truth w)
+of_sort (Composite id) w = value.Truth false
+
+scalar_of_sort : (of : Sort) (w : Value) → IsScalar (of_sort of w)
+scalar_of_sort Integer w = refl
+scalar_of_sort Boolean w = refl
+scalar_of_sort (Composite id) w = refl
 
 -- each name has the value that its variable counts as in the store
 abbrev valuation_of : Program → Store → Valuation
 valuation_of p s name = of_sort name.sort (symbol_value p s name.symbol)
 
-has_sort : (of : Sort) (w : Value) → HasSort of (of_sort of w)
+has_sort : (of : Sort) (w : Value) → HasSort no_composites of (of_sort of w)
 has_sort Integer w = tt
 has_sort Boolean w = tt
+has_sort (Composite id) w = is_in-layer false shape.Boolean Shape-F.Boolean shape.outs-Boolean (value.Truth false) ∙ ap is_truth (value.outs-Truth false)
 
-valuation_respects : (p : Program) (s : Store) → Respects (valuation_of p s)
+valuation_respects : (p : Program) (s : Store) → Respects no_composites (valuation_of p s)
 valuation_respects p s name = has_sort name.sort (symbol_value p s name.symbol)
 
 -- a value of a class has its sort
 has_class : (c : Class) (first last : _) (w : Value) → is_within c first last w ≡ true → of_sort (sort_of_class c) w ≡ w
 has_class class.Integer first last (value.Number n) h = refl
-has_class class.Integer first last (value.Truth b) h = absurd (cc)
-has_class class.Boolean first last (value.Number n) h = absurd (cc)
+has_class class.Integer first last _ h = absurd (cc)
 has_class class.Boolean first last (value.Truth b) h = refl
+has_class class.Boolean first last _ h = absurd (cc)
 has_class class.Enumeration first last (value.Number n) h = refl
-has_class class.Enumeration first last (value.Truth b) h = absurd (cc)
+has_class class.Enumeration first last _ h = absurd (cc)
 
 first_has_class : (c : Class) (first : _) → of_sort (sort_of_class c) (first_of_class c first) ≡ first_of_class c first
 first_has_class class.Integer first = refl
@@ -151,7 +167,7 @@ module _ (p : Program) (s : Store) where
     where
       by_export : (b : Bool) → Safe (if b then Assign (now p x) (Variable (entry p x)) (entering p sub vars rest) else entering p sub vars rest) the_valuation → Safe (entering p sub vars rest) the_valuation
       by_export true safe =
-          subst (Safe (entering p sub vars rest)) (unchanged the_valuation (now p x) (value_of the_valuation (Variable (entry p x))) (sym (fold-Variable (value_step the_valuation) (entry p x)))) safe
+          subst (Safe (entering p sub vars rest)) (unchanged the_valuation (now p x) (value_of no_composites the_valuation (Variable (entry p x))) (sym (value-Variable no_composites the_valuation (entry p x)))) safe
       by_export false safe = safe
 
   -- so does a local that starts with its value
@@ -162,7 +178,7 @@ module _ (p : Program) (s : Store) where
       (by_value (initial_value p x) (agrees x ∙ ap (seen (type_of p x)) (start x (or_left (x.0 == x.0) (stands_in x vars) (eq-eqb x.0 x.0 refl)))) safe)
     where
       by_value : (o : Option Value) → the_valuation (now p x) ≡ seen (type_of p x) o → Safe (starting_with (now p x) o (initializing p vars rest)) the_valuation → Safe (initializing p vars rest) the_valuation
-      by_value (Some w) is safe = subst (Safe (initializing p vars rest)) (unchanged the_valuation (now p x) (value_of the_valuation (static_term w)) (is ∙ sym (static_term_value the_valuation w))) safe
+      by_value (Some w) is safe = subst (Safe (initializing p vars rest)) (unchanged the_valuation (now p x) (value_of no_composites the_valuation (static_term w)) (is ∙ sym (static_term_value the_valuation w (subst IsScalar is (scalar_of_sort _ _))))) safe
       by_value None is safe = safe
 
 -- ---- initial values
@@ -300,12 +316,12 @@ module _ (p : Program) (sub : Sub) (scoped : Scoped p sub) (initial : StartsInTy
     first_agrees = valuation_agrees p first first_sorted
 
     -- at the start the terms of the values on entry have these values
-    first_anchored : (x : VarId) → value_of first_valuation (entry_term p sub x) ≡ reading p first x
+    first_anchored : (x : VarId) → value_of no_composites first_valuation (entry_term p sub x) ≡ reading p first x
     first_anchored x = by_import (keeps_value sub x)
       where
-        by_import : (b : Bool) → value_of first_valuation (if b then now_term p x else Variable (entry p x)) ≡ reading p first x
-        by_import true = fold-Variable (value_step first_valuation) (now p x) ∙ first_agrees x
-        by_import false = fold-Variable (value_step first_valuation) (entry p x) ∙ first_agrees x
+        by_import : (b : Bool) → value_of no_composites first_valuation (if b then now_term p x else Variable (entry p x)) ≡ reading p first x
+        by_import true = value-Variable no_composites first_valuation (now p x) ∙ first_agrees x
+        by_import false = value-Variable no_composites first_valuation (entry p x) ∙ first_agrees x
 
     first_fits : Fits frame [] first first_valuation
     first_fits = record { agrees = first_agrees; respects = valuation_respects p first; in_types = first_in_types; anchored = first_anchored; inside = tt }
@@ -328,7 +344,7 @@ module _ (p : Program) (sub : Sub) (scoped : Scoped p sub) (initial : StartsInTy
         by_import true import =
             let set = set_import x import in
             type_facts first_valuation (type_of p x) (now_term p x) set.0
-            (fold-Variable (value_step first_valuation) (now p x) ∙ first_agrees x ∙ ap (seen (type_of p x)) set.1) set.2
+            (value-Variable no_composites first_valuation (now p x) ∙ first_agrees x ∙ ap (seen (type_of p x)) set.1) set.2
         by_import false is = tt
 
     pre_facts_hold : (pre : Option CorePredicate) → pre_holds frame pre first ≡ true → AllHold first_valuation (pre_facts p sub pre)
@@ -338,14 +354,14 @@ module _ (p : Program) (sub : Sub) (scoped : Scoped p sub) (initial : StartsInTy
     abbrev body_tree : Tree
     body_tree = walk p sub (commands sub.statements) (ending p sub) (ending p sub) 0
 
-    body_safe : HasValidConditions p sub → Safe body_tree first_valuation
-    body_safe valid =
+    body_safe : TypedSub sub → HasValidConditions p sub → Safe body_tree first_valuation
+    body_safe typed valid =
         let known = assume_all (first_facts p sub) body_tree in
-        let local = entered p first sub (formals sub) (initializing p (locals sub) known) (safe_sub p sub valid first_valuation (valuation_respects p first)).0 in
+        let local = entered p first sub (formals sub) (initializing p (locals sub) known) (safe_sub p sub (all_sorted p sub scoped typed) valid first_valuation (valuation_respects p first)).0 in
         let whole = started p first first_agrees (locals sub) known (λ x is. inner_starts p sub scoped x (local_is_inner x sub is) s) local in
         assumed (first_facts p sub) body_tree first_valuation
-        (each_append (λ t. Holds t first_valuation) (flat_map (import_facts p sub) (formals sub)) (pre_facts p sub sub.pre)
-        (each_flat_map (λ t. Holds t first_valuation) (import_facts p sub) import_holds (formals sub)) (pre_facts_hold sub.pre (pre_first sub.pre refl start.precondition))) whole
+        (each_append (λ t. Holds no_composites t first_valuation) (flat_map (import_facts p sub) (formals sub)) (pre_facts p sub sub.pre)
+        (each_flat_map (λ t. Holds no_composites t first_valuation) (import_facts p sub) import_holds (formals sub)) (pre_facts_hold sub.pre (pre_first sub.pre refl start.precondition))) whole
 
     -- ---- unset variables
 
@@ -418,7 +434,7 @@ module _ (p : Program) (sub : Sub) (scoped : Scoped p sub) (initial : StartsInTy
     body_good : HasNoFinding p sub → TypedSub sub → HasValidConditions p sub → (n : ℕ) → Good Never (body_run n) IsDone Nowhere
     body_good flows typed valid n =
         joined (body_run n) (Reaches frame [] (ending p sub)) (Passes (CountsUnset IsParameter) (Goes (body_effect sub)) first) (Reaches frame [] (ending p sub)) Nowhere
-        (walk_good frame first_began (commands sub.statements) [] n (ending p sub) (ending p sub) 0 first first_valuation typed.statements scoped.body_names import_is_spared obeys.loops_keep_them (λ v respects. (safe_sub p sub valid v respects).1) first_fits (body_safe valid))
+        (walk_good frame first_began (commands sub.statements) [] n (ending p sub) (ending p sub) 0 first first_valuation typed.statements scoped.body_names import_is_spared obeys.loops_keep_them (λ v respects. (safe_sub p sub (all_sorted p sub scoped typed) valid v respects).1) first_fits (body_safe typed valid))
         (never_unset frame types (commands sub.statements) obeys.exits IsParameter parameters_keep n first (first_clear flows))
 
     pre_good : (pre : Option CorePredicate) → pre_holds frame pre first ≡ true → demand_pre frame pre first ≡ Ended first

@@ -20,6 +20,7 @@ use Rattle.spx_term.specs.declared.term.Term.{Term}
 use Rattle.spx_term.specs.declared.value.Value.TheVariants as value
 use Rattle.spx_term.specs.Meaning.{HasSort, Valuation, value_of}
 use Rattle.spx_term.specs.Steps.{Tree, Assign}
+use Rattle.spx_formula.specs.Looks.{no_composites}
 use Rattle.spx_meaning.specs.declared.bad.BadKind.TheVariants.{Range}
 use Rattle.spx_meaning.specs.Stores.{Store, put, type_of}
 use Rattle.spx_meaning.specs.Frames.{Frame}
@@ -45,10 +46,10 @@ module _ (f : Frame) (began : Began f) where
   the_term e = term_of f.program (now_term f.program) e
 
   -- where the target is no variable, nothing is done
-  assign_good : (at : List Counting) (place : Place) (o : Option VarId) (t : Term) (rest leave : ℕ → Tree) (made : ℕ) (s : Store) (v : Valuation) → Fits f at s v → ((x : VarId) → o ≡ Some x → is_held f.sub at x ≡ false) → ((x : VarId) → o ≡ Some x → HasSort (sort_of_var f.program x) (value_of v t))
-      → Safe (assigned f.program place o t (rest made)) v → Good IsUnset (assign f.program place o s (value_of v t)) (Reaches f at rest) (Reaches f at leave)
+  assign_good : (at : List Counting) (place : Place) (o : Option VarId) (t : Term) (rest leave : ℕ → Tree) (made : ℕ) (s : Store) (v : Valuation) → Fits f at s v → ((x : VarId) → o ≡ Some x → is_held f.sub at x ≡ false) → ((x : VarId) → o ≡ Some x → HasSort no_composites (sort_of_var f.program x) (value_of no_composites v t))
+      → Safe (assigned f.program place o t (rest made)) v → Good IsUnset (assign f.program place o s (value_of no_composites v t)) (Reaches f at rest) (Reaches f at leave)
   assign_good at place (Some x) t rest leave made s v fits free sorted safe =
-      let w = value_of v t in
+      let w = value_of no_composites v t in
       let past = past_range v (type_of f.program x) place t (Assign (now f.program x) t (rest made)) (sorted x refl) safe in
       subst (λ b. Good IsUnset (demand b Range place (put s x (Some w))) (Reaches f at rest) (Reaches f at leave)) (sym past.0)
       (record { valuation = changed v (now f.program x) w; made = made; fits = put_value_fits f at s x w v (free x refl) (sorted x refl) past.0 fits; safe = past.1 })
@@ -72,7 +73,7 @@ module _ (f : Frame) (began : Began f) where
       let after = assigned f.program (place_of e) o t (rest made) in
       let side = right_side target e typed in
       let right = right_sorted target e declared side in
-      good_use IsUnset (eval f n s e) (assign f.program (place_of e) o s) (value_of v t) (Safe after v) (Reaches f at rest) (Reaches f at leave)
+      good_use IsUnset (eval f n s e) (assign f.program (place_of e) o s) (value_of no_composites v t) (Safe after v) (Reaches f at rest) (Reaches f at leave)
       (eval_good f n s v fits.agrees fits.respects e side.typing side.typed (recursion_from_All (IsAsDeclared f.program) (names_read e) declared.1) [] tt after safe)
       (assign_good at (place_of e) o t rest leave made s v fits (target_free at target e spares) (λ x is. value_sorted v fits.respects t (sort_of_var f.program x) (right x is)))
 
@@ -90,7 +91,7 @@ module _ (f : Frame) (began : Began f) where
   abbrev GoOn : List Counting → Alternatives → ℕ → Type 0
   GoOn at alternatives n =
       (tests : List Read) (place : Place) (t : Term) (earlier : List Term) (of : ExprType) (k : ℤ) (rest leave : ℕ → Tree) (made : ℕ) (s : Store) (v : Valuation) → AreTyped of alternatives → has_others_last alternatives ≡ true → AllAreAsDeclared f.program alternatives
-      → Spares f.sub at (effect_among tests place alternatives) → KeepsParameters (effect_among tests place alternatives) → AlwaysSafe (cuts_for f.program f.sub (within at) alternatives rest leave) → Fits f at s v → (is : value_of v t ≡ value.Number k) → AllFail v t k is earlier → HaveValue alternatives k → Safe (walk_for f.program f.sub t earlier alternatives rest leave made) v
+      → Spares f.sub at (effect_among tests place alternatives) → KeepsParameters (effect_among tests place alternatives) → AlwaysSafe (cuts_for f.program f.sub (within at) alternatives rest leave) → Fits f at s v → (is : value_of no_composites v t ≡ value.Number k) → AllFail v t k is earlier → HaveValue alternatives k → Safe (walk_for f.program f.sub t earlier alternatives rest leave made) v
       → Good IsUnset (run_for (value.Number k) f n s alternatives) (Reaches f at rest) (Reaches f at leave)
 
   last_good : (at : List Counting) (choices : Option (List CoreChoice)) (a : Command) (n : ℕ) → GoesOn f at a n → GoOn at (Last choices a) n
@@ -118,10 +119,10 @@ module _ (f : Frame) (began : Began f) where
       let whole = select_typed place selector alternatives typed in
       let names = recursion_from_All (IsAsDeclared f.program) (names_read selector) declared.0 in
       let tree = walk_for f.program f.sub t [] alternatives rest leave made in
-      good_given IsUnset (eval f n s selector) (λ x. run_for x f n s alternatives) (value_of v t) (Safe tree v) (Reaches f at rest) (Reaches f at leave)
+      good_given IsUnset (eval f n s selector) (λ x. run_for x f n s alternatives) (value_of no_composites v t) (Safe tree v) (Reaches f at rest) (Reaches f at leave)
       (eval_good f n s v fits.agrees fits.respects selector whole.typing whole.typed names [] tt tree safe)
       (λ gives more.
-      let number = lies_in_extent f n s fits.in_types selector whole.typing whole.typed names whole.ordered (value_of v t) gives in
+      let number = lies_in_extent f n s fits.in_types selector whole.typing whole.typed names whole.ordered (value_of no_composites v t) gives in
       subst (λ x. Good IsUnset (run_for x f n s alternatives) (Reaches f at rest) (Reaches f at leave)) (sym number.1)
       (go (reads_of selector) place t [] whole.typing.of number.0 rest leave made s v whole.parts whole.others_last declared.1 spares kept from_cuts fits number.1 tt (each_has_one (extent selector) alternatives whole.once number.0 number.2) more))
 

@@ -33,9 +33,10 @@ use Rattle.spx_term.specs.declared.term.Term.{Term}
 use Rattle.spx_term.specs.declared.term.Term.TheVariants as term
 use Rattle.spx_term.specs.declared.term.TermOp.TheVariants as operator
 use Rattle.spx_term.specs.declared.value.Value.TheVariants.{Number, Truth}
-use Rattle.spx_term.specs.Meaning.{as_number, HasSort, Holds, Respects, Valuation, value_of_op, value_step, value_of}
+use Rattle.spx_term.specs.Meaning.{as_number, HasSort, Holds, Respects, Valuation, value_of_op, value_of}
 use Rattle.spx_term.specs.Steps.{Tree, Assign, Assume, Split, check}
-use Rattle.spx_term.proofs.Terms.{fold-Infix, fold-Number, fold-Variable}
+use Rattle.spx_term.proofs.Terms.{value-Infix, value-Number, value-Variable}
+use Rattle.spx_formula.specs.Looks.{no_composites}
 use Rattle.spx_meaning.specs.declared.bad.BadKind.TheVariants.{Range}
 use Rattle.spx_meaning.specs.Stores.{Store, first_of_class, is_in, is_within, look, put, seen, type_of}
 use Rattle.spx_meaning.specs.Frames.{Frame}
@@ -109,7 +110,7 @@ next_below false low high k below differs = let less = below_last k high below d
 
 -- ---- terms of a loop
 
-one_of : (reverse : Bool) (v : Valuation) (a b : Term) (m n : ℤ) → value_of v a ≡ Number m → value_of v b ≡ Number n → value_of v (if reverse then a else b) ≡ Number (if reverse then m else n)
+one_of : (reverse : Bool) (v : Valuation) (a b : Term) (m n : ℤ) → value_of no_composites v a ≡ Number m → value_of no_composites v b ≡ Number n → value_of no_composites v (if reverse then a else b) ≡ Number (if reverse then m else n)
 one_of true v a b m n p q = p
 one_of false v a b m n p q = q
 
@@ -124,27 +125,27 @@ unfolding value_of_op
 after_is true k = refl
 after_is false k = refl
 
-module _ (f : Frame) (c : CoreCount) (v : Valuation) (low high : ℤ) (low_is : value_of v (low_term f.program f.sub c) ≡ Number low) (high_is : value_of v (high_term f.program f.sub c) ≡ Number high) where
-  start_is : value_of v (start_term f.program f.sub c) ≡ Number (start_of c low high)
+module _ (f : Frame) (c : CoreCount) (v : Valuation) (low high : ℤ) (low_is : value_of no_composites v (low_term f.program f.sub c) ≡ Number low) (high_is : value_of no_composites v (high_term f.program f.sub c) ≡ Number high) where
+  start_is : value_of no_composites v (start_term f.program f.sub c) ≡ Number (start_of c low high)
   start_is = one_of c.is_reverse v (high_term f.program f.sub c) (low_term f.program f.sub c) high low high_is low_is
 
-  end_is : value_of v (end_term f.program f.sub c) ≡ Number (end_of c low high)
+  end_is : value_of no_composites v (end_term f.program f.sub c) ≡ Number (end_of c low high)
   end_is = one_of c.is_reverse v (low_term f.program f.sub c) (high_term f.program f.sub c) low high low_is high_is
 
-  module _ (k : ℤ) (now_is : value_of v (now_term f.program c.parameter) ≡ Number k) where
-    before_holds : int_le low k ≡ true → int_le k high ≡ true → int_eq k (end_of c low high) ≡ false → Holds (before_end f.program f.sub c) v
+  module _ (k : ℤ) (now_is : value_of no_composites v (now_term f.program c.parameter) ≡ Number k) where
+    before_holds : int_le low k ≡ true → int_le k high ≡ true → int_eq k (end_of c low high) ≡ false → Holds no_composites (before_end f.program f.sub c) v
     before_holds above below differs =
         let o = if c.is_reverse then operator.Greater else operator.Less in
-        fold-Infix (value_step v) o (now_term f.program c.parameter) (end_term f.program f.sub c) ∙ ap₂ (value_of_op o) now_is end_is ∙ before_is c.is_reverse low high k above below differs
+        value-Infix no_composites v o (now_term f.program c.parameter) (end_term f.program f.sub c) ∙ ap₂ (value_of_op o) now_is end_is ∙ before_is c.is_reverse low high k above below differs
 
-    at_end_holds : int_eq k (end_of c low high) ≡ true → Holds (term.Infix operator.Equal (now_term f.program c.parameter) (end_term f.program f.sub c)) v
+    at_end_holds : int_eq k (end_of c low high) ≡ true → Holds no_composites (term.Infix operator.Equal (now_term f.program c.parameter) (end_term f.program f.sub c)) v
     unfolding value_of_op
-    at_end_holds is = fold-Infix (value_step v) operator.Equal (now_term f.program c.parameter) (end_term f.program f.sub c) ∙ ap₂ (value_of_op operator.Equal) now_is end_is ∙ ap Truth is
+    at_end_holds is = value-Infix no_composites v operator.Equal (now_term f.program c.parameter) (end_term f.program f.sub c) ∙ ap₂ (value_of_op operator.Equal) now_is end_is ∙ ap Truth is
 
-    next_is : value_of v (next_term f.program c) ≡ Number (value_after c k)
+    next_is : value_of no_composites v (next_term f.program c) ≡ Number (value_after c k)
     next_is =
         let o = if c.is_reverse then operator.Subtract else operator.Add in
-        fold-Infix (value_step v) o (now_term f.program c.parameter) (term.Number (pos 1)) ∙ ap₂ (value_of_op o) now_is (fold-Number (value_step v) (pos 1)) ∙ after_is c.is_reverse k
+        value-Infix no_composites v o (now_term f.program c.parameter) (term.Number (pos 1)) ∙ ap₂ (value_of_op o) now_is (value-Number no_composites v (pos 1)) ∙ after_is c.is_reverse k
 
 -- ---- loops inside loops
 
@@ -180,17 +181,17 @@ parameter_free f at c body spares =
 -- ---- bounds
 
 -- the bounds lie in the type where there is a value between them
-goal_value : (v : Valuation) (type : Subtype) (low_term high_term : Term) (low high : ℤ) → value_of v low_term ≡ Number low → value_of v high_term ≡ Number high
-    → value_of v (range_goal type low_term high_term) ≡ Truth (not (int_le low high) || (int_le type.first low && int_le high type.last))
+goal_value : (v : Valuation) (type : Subtype) (low_term high_term : Term) (low high : ℤ) → value_of no_composites v low_term ≡ Number low → value_of no_composites v high_term ≡ Number high
+    → value_of no_composites v (range_goal type low_term high_term) ≡ Truth (not (int_le low high) || (int_le type.first low && int_le high type.last))
 unfolding value_of_op
 goal_value v type low_term high_term low high low_is high_is =
     let first = term.Infix operator.GreaterOrEqual low_term (term.Number type.first) in
     let last = term.Infix operator.LessOrEqual high_term (term.Number type.last) in
-    fold-Infix (value_step v) operator.Implies (term.Infix operator.LessOrEqual low_term high_term) (term.Infix operator.And first last)
-    ∙ ap₂ (value_of_op operator.Implies) (fold-Infix (value_step v) operator.LessOrEqual low_term high_term ∙ ap₂ (value_of_op operator.LessOrEqual) low_is high_is)
-    (fold-Infix (value_step v) operator.And first last
-    ∙ ap₂ (value_of_op operator.And) (fold-Infix (value_step v) operator.GreaterOrEqual low_term (term.Number type.first) ∙ ap₂ (value_of_op operator.GreaterOrEqual) low_is (fold-Number (value_step v) type.first))
-    (fold-Infix (value_step v) operator.LessOrEqual high_term (term.Number type.last) ∙ ap₂ (value_of_op operator.LessOrEqual) high_is (fold-Number (value_step v) type.last)))
+    value-Infix no_composites v operator.Implies (term.Infix operator.LessOrEqual low_term high_term) (term.Infix operator.And first last)
+    ∙ ap₂ (value_of_op operator.Implies) (value-Infix no_composites v operator.LessOrEqual low_term high_term ∙ ap₂ (value_of_op operator.LessOrEqual) low_is high_is)
+    (value-Infix no_composites v operator.And first last
+    ∙ ap₂ (value_of_op operator.And) (value-Infix no_composites v operator.GreaterOrEqual low_term (term.Number type.first) ∙ ap₂ (value_of_op operator.GreaterOrEqual) low_is (value-Number no_composites v type.first))
+    (value-Infix no_composites v operator.LessOrEqual high_term (term.Number type.last) ∙ ap₂ (value_of_op operator.LessOrEqual) high_is (value-Number no_composites v type.last)))
 
 implied : (b c : Bool) → (not b || c) ≡ true → b ≡ true → c ≡ true
 implied true c h is = h
@@ -200,21 +201,21 @@ implies : (b c : Bool) → (b ≡ true → c ≡ true) → (not b || c) ≡ true
 implies true c h = h refl
 implies false c h = refl
 
-compared : (v : Valuation) (low_term high_term : Term) (low high : ℤ) → value_of v low_term ≡ Number low → value_of v high_term ≡ Number high → int_le low high ≡ true → Holds (term.Infix operator.LessOrEqual low_term high_term) v
+compared : (v : Valuation) (low_term high_term : Term) (low high : ℤ) → value_of no_composites v low_term ≡ Number low → value_of no_composites v high_term ≡ Number high → int_le low high ≡ true → Holds no_composites (term.Infix operator.LessOrEqual low_term high_term) v
 unfolding value_of_op
-compared v low_term high_term low high low_is high_is some = fold-Infix (value_step v) operator.LessOrEqual low_term high_term ∙ ap₂ (value_of_op operator.LessOrEqual) low_is high_is ∙ ap Truth some
+compared v low_term high_term low high low_is high_is some = value-Infix no_composites v operator.LessOrEqual low_term high_term ∙ ap₂ (value_of_op operator.LessOrEqual) low_is high_is ∙ ap Truth some
 
-compared_greater : (v : Valuation) (low_term high_term : Term) (low high : ℤ) → value_of v low_term ≡ Number low → value_of v high_term ≡ Number high → int_le low high ≡ false → Holds (term.Infix operator.Greater low_term high_term) v
+compared_greater : (v : Valuation) (low_term high_term : Term) (low high : ℤ) → value_of no_composites v low_term ≡ Number low → value_of no_composites v high_term ≡ Number high → int_le low high ≡ false → Holds no_composites (term.Infix operator.Greater low_term high_term) v
 unfolding value_of_op
 compared_greater v low_term high_term low high low_is high_is none =
-    fold-Infix (value_step v) operator.Greater low_term high_term ∙ ap₂ (value_of_op operator.Greater) low_is high_is ∙ ap Truth (greater low high none)
+    value-Infix no_composites v operator.Greater low_term high_term ∙ ap₂ (value_of_op operator.Greater) low_is high_is ∙ ap Truth (greater low high none)
 
 module _ (f : Frame) where
   abbrev the_term : CoreExpr → Term
   the_term e = term_of f.program (now_term f.program) e
 
   -- the value of one that has the base type of a type with numbers is a number
-  bound_number : (v : Valuation) (subtype : Subtype) (e : CoreExpr) → Respects v → has_numbers subtype.base.class ≡ true → TypedBound subtype e → AllByRecursion (IsAsDeclared f.program) (names_read e) → (n : ℤ) × (value_of v (the_term e) ≡ Number n)
+  bound_number : (v : Valuation) (subtype : Subtype) (e : CoreExpr) → Respects no_composites v → has_numbers subtype.base.class ≡ true → TypedBound subtype e → AllByRecursion (IsAsDeclared f.program) (names_read e) → (n : ℤ) × (value_of no_composites v (the_term e) ≡ Number n)
   bound_number v subtype e respects ordered bound names =
       integer_value v respects (the_term e)
       (is_sorted f.program (now_term f.program) (now_sorted f.program) e bound.typing bound.typed names ∙ ap Some (is_of_sort subtype.base bound.typing.of bound.fits ∙ class_number subtype.base.class ordered))
@@ -224,21 +225,21 @@ module _ (f : Frame) (at : List Counting) (s : Store) where
   record IsNamed (v : Valuation) (name : Symbolic) (bound : Term) (e : CoreExpr) (rest : Tree) : Type 0 where
     valuation : Valuation
     fits : Fits f at s valuation
-    is : value_of valuation bound ≡ value_of v (the_term f e)
+    is : value_of no_composites valuation bound ≡ value_of no_composites v (the_term f e)
     others : (other : Symbolic) → (name.symbol ≡ other.symbol → ⊥) → v other ≡ valuation other
     safe : Safe rest valuation
 
-  naming_good : (v : Valuation) (name : Symbolic) (e : CoreExpr) (rest : Tree) → IsFresh at name → HasSort name.sort (value_of v (the_term f e)) → Fits f at s v → Safe (naming f.program f.sub name e rest) v → IsNamed v name (bound_term f.program f.sub name e) e rest
+  naming_good : (v : Valuation) (name : Symbolic) (e : CoreExpr) (rest : Tree) → IsFresh at name → HasSort no_composites name.sort (value_of no_composites v (the_term f e)) → Fits f at s v → Safe (naming f.program f.sub name e rest) v → IsNamed v name (bound_term f.program f.sub name e) e rest
   naming_good v name e rest fresh sorted fits safe = by_fixed (is_fixed f.sub e) safe
     where
       by_fixed : (b : Bool) → Safe (if b then rest else Assign name (the_term f e) rest) v → IsNamed v name (if b then the_term f e else term.Variable name) e rest
       by_fixed true safe = record { valuation = v; fits = fits; is = refl; others = λ other differ. refl; safe = safe }
       by_fixed false safe =
-          let w = value_of v (the_term f e) in
+          let w = value_of no_composites v (the_term f e) in
           record {
             valuation = changed v name w;
             fits = named_fits f at s v name w fresh sorted fits;
-            is = fold-Variable (value_step (changed v name w)) name ∙ changed_at v name w;
+            is = value-Variable no_composites (changed v name w) name ∙ changed_at v name w;
             others = λ other differ. unchanged_at v name w other differ;
             safe = safe;
           }
@@ -266,8 +267,8 @@ module _ (f : Frame) (began : Began f) (at : List Counting) (c : CoreCount) (bod
   free : is_held f.sub at c.parameter ≡ false
   free = parameter_free f at c body spares
 
-  number_sorted : (k : ℤ) → HasSort (sort_of_var f.program c.parameter) (Number k)
-  number_sorted k = subst (λ of. HasSort of (Number k)) (sym (class_number type.base.class has)) tt
+  number_sorted : (k : ℤ) → HasSort no_composites (sort_of_var f.program c.parameter) (Number k)
+  number_sorted k = subst (λ of. HasSort no_composites of (Number k)) (sym (class_number type.base.class has)) tt
 
   -- after the loop the parameter is unset
   unset_reaches : (t : Store) → Reaches f at left t → Reaches f at rest (put t c.parameter None)
@@ -275,7 +276,7 @@ module _ (f : Frame) (began : Began f) (at : List Counting) (c : CoreCount) (bod
     valuation = changed there.valuation (now f.program c.parameter) (Number type.first);
     made = there.made;
     fits = put_fits f at t c.parameter None (Number type.first) there.valuation (first_number type.base.class type.first has) free (number_sorted type.first) (λ u is. absurd (cc)) there.fits;
-    safe = subst (λ w. Safe (rest there.made) (changed there.valuation (now f.program c.parameter) w)) (fold-Number (value_step there.valuation) type.first) there.safe;
+    safe = subst (λ w. Safe (rest there.made) (changed there.valuation (now f.program c.parameter) w)) (value-Number no_composites there.valuation type.first) there.safe;
   }
 
   module _ (low high : ℤ) (lies : int_le low high ≡ true → (int_le type.first low ≡ true) × (int_le high type.last ≡ true)) where
@@ -293,7 +294,7 @@ module _ (f : Frame) (began : Began f) (at : List Counting) (c : CoreCount) (bod
 
     -- the values of the bounds
     abbrev AreBounds : Valuation → Type 0
-    AreBounds v = (value_of v (low_term f.program f.sub c) ≡ Number low) × (value_of v (high_term f.program f.sub c) ≡ Number high)
+    AreBounds v = (value_of no_composites v (low_term f.program f.sub c) ≡ Number low) × (value_of no_composites v (high_term f.program f.sub c) ≡ Number high)
 
     -- a turn begins with a value of the parameter
     begins : (k : ℤ) (s : Store) (v : Valuation) → int_le low k ≡ true → int_le k high ≡ true → AreBounds v → Fits f at s v → Fits f (deeper k) (put s c.parameter (Some (Number k))) (changed v (now f.program c.parameter) (Number k))
@@ -374,8 +375,8 @@ module _ (f : Frame) (began : Began f) (at : List Counting) (c : CoreCount) (bod
   whole_good : c.bounds ≡ None → (n made : ℕ) (s : Store) (v : Valuation) → Fits f at s v → Safe (Assign (now f.program c.parameter) (start_term f.program f.sub c) (into made)) v → Good IsUnset (over_range c turn n type.first type.last s) (Reaches f at rest) (Reaches f at leave)
   whole_good none n made s v fits safe =
       let some = type_has_value f.program began.types c.parameter in
-      let low_is = ap (λ o. value_of v (low_term f.program f.sub (record c { bounds = o }))) none ∙ fold-Number (value_step v) type.first in
-      let high_is = ap (λ o. value_of v (high_term f.program f.sub (record c { bounds = o }))) none ∙ fold-Number (value_step v) type.last in
+      let low_is = ap (λ o. value_of no_composites v (low_term f.program f.sub (record c { bounds = o }))) none ∙ value-Number no_composites v type.first in
+      let high_is = ap (λ o. value_of no_composites v (high_term f.program f.sub (record c { bounds = o }))) none ∙ value-Number no_composites v type.last in
       over_good type.first type.last (λ is. (itself type.first, itself type.last)) n made s v (low_is, high_is) fits (λ is. safe) (λ is. absurd (both_ways (int_le type.first type.last) is some))
 
   -- the steps where the bounds have their values
@@ -388,7 +389,7 @@ module _ (f : Frame) (began : Began f) (at : List Counting) (c : CoreCount) (bod
   ranged place made = check RangeCheck place (range_goal type (low_term f.program f.sub c) (high_term f.program f.sub c) ∷ []) (branches made)
 
   -- the bounds have their values, and lie in the type
-  bounded_good : (place : Place) (n made : ℕ) (low high : ℤ) (s : Store) (v : Valuation) → value_of v (low_term f.program f.sub c) ≡ Number low → value_of v (high_term f.program f.sub c) ≡ Number high → Fits f at s v
+  bounded_good : (place : Place) (n made : ℕ) (low high : ℤ) (s : Store) (v : Valuation) → value_of no_composites v (low_term f.program f.sub c) ≡ Number low → value_of no_composites v (high_term f.program f.sub c) ≡ Number high → Fits f at s v
       → Safe (ranged place made) v
       → Good IsUnset (then_do (in_bounds type place low high s) (over_range c turn n low high)) (Reaches f at rest) (Reaches f at leave)
   bounded_good place n made low high s v low_is high_is fits safe =
@@ -424,13 +425,13 @@ module _ (f : Frame) (began : Began f) (at : List Counting) (c : CoreCount) (bod
       good_use IsUnset (eval f n s range.high) (λ y. then_do (in_bounds type place low.0 (as_number y) s) (over_range c turn n low.0 (as_number y))) (Number high.0) (Safe after v) (Reaches f at rest) (Reaches f at leave)
       (subst (λ w. GoodValue IsUnset (eval f n s range.high) w (Safe after v)) high.1 (eval_good f n s v fits.agrees fits.respects range.high bounds.1.typing bounds.1.typed names.1 [] tt after more))
       (λ still.
-      let one = naming_good f at s v first range.low (naming f.program f.sub last range.high tree) (first_is_fresh at c.parameter outer) (subst (HasSort Integer) (sym low.1) tt) fits still in
+      let one = naming_good f at s v first range.low (naming f.program f.sub last range.high tree) (first_is_fresh at c.parameter outer) (subst (HasSort no_composites Integer) (sym low.1) tt) fits still in
       let u = one.valuation in
       let high_there = sym (term_kept f s s v u fits.agrees one.fits.agrees range.high (λ x used. refl)) ∙ high.1 in
-      let both = naming_good f at s u last range.high tree (last_is_fresh at c.parameter outer) (subst (HasSort Integer) (sym high_there) tt) one.fits one.safe in
+      let both = naming_good f at s u last range.high tree (last_is_fresh at c.parameter outer) (subst (HasSort no_composites Integer) (sym high_there) tt) one.fits one.safe in
       let w = both.valuation in
-      let low_stands = ap (λ o. value_of w (low_term f.program f.sub (record c { bounds = o }))) is in
-      let high_stands = ap (λ o. value_of w (high_term f.program f.sub (record c { bounds = o }))) is in
+      let low_stands = ap (λ o. value_of no_composites w (low_term f.program f.sub (record c { bounds = o }))) is in
+      let high_stands = ap (λ o. value_of no_composites w (high_term f.program f.sub (record c { bounds = o }))) is in
       let low_is = low_stands ∙ sym (bound_kept f s s u w one.fits.agrees both.fits.agrees (λ x is. refl) first (both.others first (λ e. absurd (cc))) range.low) ∙ one.is ∙ low.1 in
       bounded_good place n made low.0 high.0 s w low_is (high_stands ∙ both.is ∙ high_there) both.fits both.safe))
 

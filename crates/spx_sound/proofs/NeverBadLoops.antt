@@ -28,11 +28,12 @@ use Rattle.spx_term.specs.declared.term.TermPrefix.TheVariants.{Not}
 use Rattle.spx_term.specs.declared.value.Value.{Value}
 use Rattle.spx_term.specs.declared.value.Value.TheVariants as value
 use Rattle.spx_term.specs.Conjuncts.{conjuncts}
-use Rattle.spx_term.specs.Meaning.{as_truth, Respects, Valuation, value_of_op, value_step, value_of, Holds}
+use Rattle.spx_term.specs.Meaning.{as_truth, Respects, Valuation, value_of_op, value_of, Holds}
 use Rattle.spx_term.specs.Steps.{Tree, Assume, assume_parts, Cut}
 use Rattle.spx_term.proofs.ConjunctLaws.{parts_hold}
 use Rattle.spx_term.specs.declared.condition.CondKind.TheVariants.{Assert as AssertCondition, Check as CheckCondition}
-use Rattle.spx_term.proofs.Terms.{fold-Infix, fold-Prefix, fold-Truth}
+use Rattle.spx_term.proofs.Terms.{value-Infix, value-Prefix, value-Truth}
+use Rattle.spx_formula.specs.Looks.{no_composites}
 use Rattle.spx_meaning.specs.Frames.{Frame}
 use Rattle.spx_meaning.specs.Evaluation.{eval}
 use Rattle.spx_meaning.specs.declared.bad.BadKind.TheVariants.{Assert as AssertBad, Check as CheckBad}
@@ -85,7 +86,7 @@ module _ (f : Frame) (began : Began f) (at : List Counting) (s : Store) (v : Val
   entry_lies : (x : VarId) → AllHold v (entry_facts f.program f.sub x)
   entry_lies x = by_relation (imports x f.sub) (exports x f.sub) (fits.anchored x)
     where
-      by_relation : (import export : Bool) → value_of v (if import && not export then now_term f.program x else term.Variable (entry f.program x)) ≡ reading f.program f.entry x
+      by_relation : (import export : Bool) → value_of no_composites v (if import && not export then now_term f.program x else term.Variable (entry f.program x)) ≡ reading f.program f.entry x
           → AllHold v (if import && export then in_type (type_of f.program x) (term.Variable (entry f.program x)) else [])
       by_relation true true anchored = type_facts v (type_of f.program x) (term.Variable (entry f.program x)) (reading f.program f.entry x) anchored (reading_in f.program began.types f.entry began.in_types x)
       by_relation true false anchored = tt
@@ -101,35 +102,35 @@ module _ (f : Frame) (began : Began f) (at : List Counting) (s : Store) (v : Val
   count_lies x inside =
       let parameter = x.count.parameter in
       let present = now_terms f.program s v fits.agrees parameter ∙ ap (seen (type_of f.program parameter)) inside.present in
-      each_append (λ t. Holds t v) (var_facts f.program parameter) _ (variable_lies parameter) (
-        fold-Infix (value_step v) operator.GreaterOrEqual (now_term f.program parameter) (low_term f.program f.sub x.count) ∙ ap₂ (value_of_op operator.GreaterOrEqual) present inside.low_is ∙ ap value.Truth inside.above,
-        (fold-Infix (value_step v) operator.LessOrEqual (now_term f.program parameter) (high_term f.program f.sub x.count) ∙ ap₂ (value_of_op operator.LessOrEqual) present inside.high_is ∙ ap value.Truth inside.below, tt),
+      each_append (λ t. Holds no_composites t v) (var_facts f.program parameter) _ (variable_lies parameter) (
+        value-Infix no_composites v operator.GreaterOrEqual (now_term f.program parameter) (low_term f.program f.sub x.count) ∙ ap₂ (value_of_op operator.GreaterOrEqual) present inside.low_is ∙ ap value.Truth inside.above,
+        (value-Infix no_composites v operator.LessOrEqual (now_term f.program parameter) (high_term f.program f.sub x.count) ∙ ap₂ (value_of_op operator.LessOrEqual) present inside.high_is ∙ ap value.Truth inside.below, tt),
       )
 
   counts_lie : (loops : List Counting) → AllByRecursion (IsInside f s v) loops → AllHold v (flat_map (count_facts f.program f.sub) (within loops))
   counts_lie [] inside = tt
-  counts_lie (x ∷ loops) inside = each_append (λ t. Holds t v) (count_facts f.program f.sub x.count) _ (count_lies x inside.0) (counts_lie loops inside.1)
+  counts_lie (x ∷ loops) inside = each_append (λ t. Holds no_composites t v) (count_facts f.program f.sub x.count) _ (count_lies x inside.0) (counts_lie loops inside.1)
 
   cut_facts_hold : AllHold v (cut_facts f.program f.sub (within at))
   cut_facts_hold =
-      let locals_lie = each_flat_map (λ t. Holds t v) (var_facts f.program) variable_lies (locals f.sub) in
-      let entries_lie = each_flat_map (λ t. Holds t v) (entry_facts f.program f.sub) entry_lies (formals f.sub) in
-      each_append (λ t. Holds t v) (flat_map (var_facts f.program) (formals f.sub)) _ (each_flat_map (λ t. Holds t v) (var_facts f.program) variable_lies (formals f.sub))
-      (each_append (λ t. Holds t v) (flat_map (var_facts f.program) (locals f.sub)) _ locals_lie
-      (each_append (λ t. Holds t v) (flat_map (entry_facts f.program f.sub) (formals f.sub)) _ entries_lie
-      (each_append (λ t. Holds t v) (flat_map (count_facts f.program f.sub) (within at)) _ (counts_lie at fits.inside) (pre_held f.sub.pre began.precondition))))
+      let locals_lie = each_flat_map (λ t. Holds no_composites t v) (var_facts f.program) variable_lies (locals f.sub) in
+      let entries_lie = each_flat_map (λ t. Holds no_composites t v) (entry_facts f.program f.sub) entry_lies (formals f.sub) in
+      each_append (λ t. Holds no_composites t v) (flat_map (var_facts f.program) (formals f.sub)) _ (each_flat_map (λ t. Holds no_composites t v) (var_facts f.program) variable_lies (formals f.sub))
+      (each_append (λ t. Holds no_composites t v) (flat_map (var_facts f.program) (locals f.sub)) _ locals_lie
+      (each_append (λ t. Holds no_composites t v) (flat_map (entry_facts f.program f.sub) (formals f.sub)) _ entries_lie
+      (each_append (λ t. Holds no_composites t v) (flat_map (count_facts f.program f.sub) (within at)) _ (counts_lie at fits.inside) (pre_held f.sub.pre began.precondition))))
 
   -- where this is known too, the steps from the cut on are safe
   past_cut : (known : List Term) (rest : Tree) → AllHold v known → Safe (from_cut f.program f.sub (within at) known rest) v → Safe rest v
-  past_cut known rest hold safe = assumed (cut_facts f.program f.sub (within at) ++ known) rest v (each_append (λ t. Holds t v) (cut_facts f.program f.sub (within at)) known cut_facts_hold hold) safe
+  past_cut known rest hold safe = assumed (cut_facts f.program f.sub (within at) ++ known) rest v (each_append (λ t. Holds no_composites t v) (cut_facts f.program f.sub (within at)) known cut_facts_hold hold) safe
 
 -- these trees are safe at every valuation
 abbrev pub AlwaysSafe : List Tree → Type 0
-AlwaysSafe trees = (v : Valuation) → Respects v → AllSafe v trees
+AlwaysSafe trees = (v : Valuation) → Respects no_composites v → AllSafe v trees
 
 pub always_parts : (a b : List Tree) → AlwaysSafe (a ++ b) → AlwaysSafe a × AlwaysSafe b
 always_parts a b safe =
-    let split : (v : Valuation) → Respects v → AllSafe v a × AllSafe v b = λ v respects. each_split (λ tree. Safe tree v) a b (safe v respects) in
+    let split : (v : Valuation) → Respects no_composites v → AllSafe v a × AllSafe v b = λ v respects. each_split (λ tree. Safe tree v) a b (safe v respects) in
     (λ v respects. (split v respects).0, λ v respects. (split v respects).1)
 
 -- Where a command goes on, and where it leaves the loop around it, the steps there are safe, if those through it are and those from each cut in it. At a cut
@@ -165,7 +166,7 @@ pub decided_good : (f : Frame) (at : List Counting) (n : ℕ) (e : CoreExpr) (is
     → Good IsUnset (use_value (eval f n s e) (λ x. if as_truth x then first else second)) P L
 decided_good f at n e is_exit holds fails made s v first second P L typed declared fits safe go other =
     let t = term_of f.program (now_term f.program) e in
-    let w = value_of v t in
+    let w = value_of no_composites v t in
     let first_arm = assume_parts t (holds made) in
     let second_arm = Assume (term.Prefix Not t) (fails made) in
     let arms = one_before is_exit first_arm second_arm in
@@ -174,8 +175,8 @@ decided_good f at n e is_exit holds fails made s v first second P L typed declar
     (eval_good f n s v fits.agrees fits.respects e of.0 of.1 (recursion_from_All (IsAsDeclared f.program) (names_read e) declared) [] tt arms safe)
     (λ more.
     good_if IsUnset (as_truth w) first second P L
-    (λ is. go (assumed (conjuncts t) (holds made) v (parts_hold v t (truth_from w is)) (both_safe is_exit first_arm second_arm v more).0))
-    (λ is. other ((both_safe is_exit first_arm second_arm v more).1 (fold-Prefix (value_step v) Not t ∙ false_holds w is))))
+    (λ is. go (assumed (conjuncts t) (holds made) v (parts_hold no_composites v t (truth_from w is)) (both_safe is_exit first_arm second_arm v more).0))
+    (λ is. other ((both_safe is_exit first_arm second_arm v more).1 (value-Prefix no_composites v Not t ∙ false_holds w is))))
 
 -- ---- loops
 
@@ -190,7 +191,7 @@ module _ (f : Frame) (began : Began f) (head : Head) (body : Command) (rest : �
   -- a turn is safe: as far as its own cut, or from the cut before the body on
   pub turn_safe : (at : List Counting) (s : Store) (v : Valuation) → Fits f at s v → (made : ℕ) (own : Bool) → has_own_cut body ≡ own → AlwaysSafe (loop_cut f.program f.sub (within at) own (turn_tree 0)) → Safe (first_part own made) v → (k : ℕ) × Safe (turn_tree k) v
   turn_safe at s v fits made true own from_cut safe = (made, subst (λ tree. Safe tree v) (cut_off f.program f.sub body own (λ m. Cut) (end_of_turn f.program f.sub head body rest) (leaving f.program head rest) made) safe)
-  turn_safe at s v fits made false own from_cut safe = (0, past_cut f began at s v fits (term.Truth true ∷ []) (turn_tree 0) (fold-Truth (value_step v) true, tt) (from_cut v fits.respects).0)
+  turn_safe at s v fits made false own from_cut safe = (0, past_cut f began at s v fits (term.Truth true ∷ []) (turn_tree 0) (value-Truth no_composites v true, tt) (from_cut v fits.respects).0)
 
 module _ (f : Frame) (began : Began f) (at : List Counting) (place : Place) (e : CoreExpr) (body : Command) (rest leave : ℕ → Tree) where
   abbrev head : Head

@@ -1,5 +1,5 @@
 -- Valuations that stand for stores, values that are checked, and annotations that are shown.
-use Rattle.std.proofs.Common.{◌≡◌, ℕ, ℤ, Bool, true, false, ◌||◌, ◌==◌, if◌then◌else◌, List, [], ◌∷◌, map, Option, Some, None, refl, sym, ap, ap₂, ◌∙◌, subst, int_le, inl, inr, ⊎_elim, Decides}
+use Rattle.std.proofs.Common.{◌≡◌, ℕ, ℤ, Bool, true, false, ◌||◌, ◌==◌, if◌then◌else◌, List, [], ◌∷◌, map, Option, Some, None, refl, sym, ap, ap₂, ◌∙◌, subst, int_le, inl, inr, ⊎_elim}
 use Rattle.std.specs.List.{AllByRecursion, list_all, list_any}
 use Rattle.std.proofs.lemmas.Bool.{and_parts, both_ways, eq-eqb, eqb-true, false_from_ne_true, or_cases, or_left, or_parts, or_right}
 use Rattle.std.proofs.lemmas.Bool.Decides.{eqb_tells}
@@ -27,11 +27,12 @@ use Rattle.spx_term.specs.declared.term.Term.TheVariants as term
 use Rattle.spx_term.specs.declared.value.Value.{Value}
 use Rattle.spx_term.specs.declared.value.Value.TheVariants as value
 use Rattle.spx_term.specs.Conjuncts.{conjuncts}
-use Rattle.spx_term.specs.Meaning.{HasSort, Respects, Valuation, value_step, value_of}
-use Rattle.spx_term.specs.Steps.{Tree, check, same_name}
-use Rattle.spx_term.specs.contracts.term.Name as symbolic
-use Rattle.spx_term.proofs.Equality.{same_by-Decides}
-use Rattle.spx_term.proofs.Terms.{fold-Number, fold-Variable}
+use Rattle.spx_term.specs.Meaning.{HasSort, Respects, Valuation, value_of}
+use Rattle.spx_term.specs.Steps.{Tree, check}
+use Rattle.spx_term.specs.Equality.{same_name}
+use Rattle.spx_term.proofs.Equality.{same_name-Decides}
+use Rattle.spx_term.proofs.Terms.{value-Number, value-Variable}
+use Rattle.spx_formula.specs.Looks.{no_composites}
 use Rattle.spx_meaning.specs.Stores.{Store, look, put, type_of, is_in, is_within, reading, seen}
 use Rattle.spx_meaning.specs.Frames.{Frame, around}
 use Rattle.spx_meaning.specs.Annotations.{truth}
@@ -47,10 +48,6 @@ use Rattle.spx_sound.proofs.NeverBadAnnotations.{means_its_term, now_terms, true
 use Rattle.spx_sound.proofs.Extents.{AreInTypes}
 
 -- ---- names
-
-pub same_name-Decides : (x y : Symbolic) → Decides (same_name x y) (x ≡ y)
-unfolding same_name
-same_name-Decides x y = same_by-Decides symbolic.the_row.coded x y
 
 module _ (p : Program) where
   now_is : (x y : VarId) → now p x ≡ now p y → x.0 ≡ y.0
@@ -111,17 +108,17 @@ other_held sub at x y free held same = both_ways (is_held sub at y) (ap (λ k. i
 -- the parameter of the loop has its value, which lies between those of the bounds
 pub record IsInside (f : Frame) (s : Store) (v : Valuation) (x : Counting) : Type 0 where
   pub present : look s x.count.parameter ≡ Some (value.Number x.value)
-  pub low_is : value_of v (low_term f.program f.sub x.count) ≡ value.Number x.low
-  pub high_is : value_of v (high_term f.program f.sub x.count) ≡ value.Number x.high
+  pub low_is : value_of no_composites v (low_term f.program f.sub x.count) ≡ value.Number x.low
+  pub high_is : value_of no_composites v (high_term f.program f.sub x.count) ≡ value.Number x.high
   pub above : int_le x.low x.value ≡ true
   pub below : int_le x.value x.high ≡ true
 
 -- the valuation stands for the store, whose values are in their types, for the values on entry, and for the loops that are under way
 pub record Fits (f : Frame) (at : List Counting) (s : Store) (v : Valuation) : Type 0 where
   pub agrees : AgreesWith f.program s v
-  pub respects : Respects v
+  pub respects : Respects no_composites v
   pub in_types : AreInTypes f.program s
-  pub anchored : (x : VarId) → value_of v (entry_term f.program f.sub x) ≡ reading f.program f.entry x
+  pub anchored : (x : VarId) → value_of no_composites v (entry_term f.program f.sub x) ≡ reading f.program f.entry x
   pub inside : AllByRecursion (IsInside f s v) at
 
 -- ---- values of bounds
@@ -139,7 +136,7 @@ fixed_stays sub e x fixed used = reads_stay sub (reads_of e) x fixed (reads_uses
 -- from one store and its valuation to another in which the variables that keep their values have them
 module _ (f : Frame) (s t : Store) (v u : Valuation) (before : AgreesWith f.program s v) (after : AgreesWith f.program t u) where
   -- the value of an expression is that of the variables that it uses
-  pub term_kept : (e : CoreExpr) → AgreeOnUses e s t → value_of v (term_of f.program (now_term f.program) e) ≡ value_of u (term_of f.program (now_term f.program) e)
+  pub term_kept : (e : CoreExpr) → AgreeOnUses e s t → value_of no_composites v (term_of f.program (now_term f.program) e) ≡ value_of no_composites u (term_of f.program (now_term f.program) e)
   term_kept e same =
       sym (means_its_term (around f.program f.sub s) s v (now_term f.program) (now_term f.program) (now_terms f.program s v before) (now_terms f.program s v before) e)
       ∙ meant_same (around f.program f.sub s) (around f.program f.sub t) refl s t e same same
@@ -149,25 +146,25 @@ module _ (f : Frame) (s t : Store) (v u : Valuation) (before : AgreesWith f.prog
   AreKept = (x : VarId) → keeps_value f.sub x ≡ true → look s x ≡ look t x
 
   -- so has a bound that is fixed, and the name of one that is not
-  pub bound_kept : AreKept → (name : Symbolic) → v name ≡ u name → (e : CoreExpr) → value_of v (bound_term f.program f.sub name e) ≡ value_of u (bound_term f.program f.sub name e)
+  pub bound_kept : AreKept → (name : Symbolic) → v name ≡ u name → (e : CoreExpr) → value_of no_composites v (bound_term f.program f.sub name e) ≡ value_of no_composites u (bound_term f.program f.sub name e)
   bound_kept kept name same e = by_fixed (is_fixed f.sub e) refl
     where
-      by_fixed : (b : Bool) → is_fixed f.sub e ≡ b → value_of v (if b then term_of f.program (now_term f.program) e else term.Variable name) ≡ value_of u (if b then term_of f.program (now_term f.program) e else term.Variable name)
+      by_fixed : (b : Bool) → is_fixed f.sub e ≡ b → value_of no_composites v (if b then term_of f.program (now_term f.program) e else term.Variable name) ≡ value_of no_composites u (if b then term_of f.program (now_term f.program) e else term.Variable name)
       by_fixed true fixed = term_kept e (λ x used. kept x (fixed_stays f.sub e x fixed used))
-      by_fixed false fixed = fold-Variable (value_step v) name ∙ same ∙ sym (fold-Variable (value_step u) name)
+      by_fixed false fixed = value-Variable no_composites v name ∙ same ∙ sym (value-Variable no_composites u name)
 
-  pub low_kept : AreKept → (c : CoreCount) → v (first_name c.parameter) ≡ u (first_name c.parameter) → value_of v (low_term f.program f.sub c) ≡ value_of u (low_term f.program f.sub c)
+  pub low_kept : AreKept → (c : CoreCount) → v (first_name c.parameter) ≡ u (first_name c.parameter) → value_of no_composites v (low_term f.program f.sub c) ≡ value_of no_composites u (low_term f.program f.sub c)
   low_kept kept c same = by_bounds c.bounds
     where
-      by_bounds : (o : Option CoreRange) → value_of v (low_term f.program f.sub (record c { bounds = o })) ≡ value_of u (low_term f.program f.sub (record c { bounds = o }))
-      by_bounds None = fold-Number (value_step v) _ ∙ sym (fold-Number (value_step u) _)
+      by_bounds : (o : Option CoreRange) → value_of no_composites v (low_term f.program f.sub (record c { bounds = o })) ≡ value_of no_composites u (low_term f.program f.sub (record c { bounds = o }))
+      by_bounds None = value-Number no_composites v _ ∙ sym (value-Number no_composites u _)
       by_bounds (Some range) = bound_kept kept (first_name c.parameter) same range.low
 
-  pub high_kept : AreKept → (c : CoreCount) → v (last_name c.parameter) ≡ u (last_name c.parameter) → value_of v (high_term f.program f.sub c) ≡ value_of u (high_term f.program f.sub c)
+  pub high_kept : AreKept → (c : CoreCount) → v (last_name c.parameter) ≡ u (last_name c.parameter) → value_of no_composites v (high_term f.program f.sub c) ≡ value_of no_composites u (high_term f.program f.sub c)
   high_kept kept c same = by_bounds c.bounds
     where
-      by_bounds : (o : Option CoreRange) → value_of v (high_term f.program f.sub (record c { bounds = o })) ≡ value_of u (high_term f.program f.sub (record c { bounds = o }))
-      by_bounds None = fold-Number (value_step v) _ ∙ sym (fold-Number (value_step u) _)
+      by_bounds : (o : Option CoreRange) → value_of no_composites v (high_term f.program f.sub (record c { bounds = o })) ≡ value_of no_composites u (high_term f.program f.sub (record c { bounds = o }))
+      by_bounds None = value-Number no_composites v _ ∙ sym (value-Number no_composites u _)
       by_bounds (Some range) = bound_kept kept (last_name c.parameter) same range.high
 
   -- the parameter has its value, and so have the names of its bounds
@@ -192,7 +189,7 @@ module _ (f : Frame) (s t : Store) (v u : Valuation) (before : AgreesWith f.prog
       )
 
   -- where the names of values on entry have theirs too, the other valuation stands for the other store
-  fits_kept : Respects u → AreInTypes f.program t → AreKept → ((x : VarId) → v (entry f.program x) ≡ u (entry f.program x)) → (at : List Counting) → ((x : VarId) → is_parameter at x ≡ true → IsUntouched x) → Fits f at s v → Fits f at t u
+  fits_kept : Respects no_composites u → AreInTypes f.program t → AreKept → ((x : VarId) → v (entry f.program x) ≡ u (entry f.program x)) → (at : List Counting) → ((x : VarId) → is_parameter at x ≡ true → IsUntouched x) → Fits f at s v → Fits f at t u
   fits_kept respects in_types kept entered at untouched fits = record {
     agrees = after;
     respects = respects;
@@ -201,17 +198,17 @@ module _ (f : Frame) (s t : Store) (v u : Valuation) (before : AgreesWith f.prog
     inside = inside_kept kept at untouched fits.inside;
   }
     where
-      entry_kept : (x : VarId) (b : Bool) → keeps_value f.sub x ≡ b → value_of v (if b then now_term f.program x else term.Variable (entry f.program x)) ≡ value_of u (if b then now_term f.program x else term.Variable (entry f.program x))
+      entry_kept : (x : VarId) (b : Bool) → keeps_value f.sub x ≡ b → value_of no_composites v (if b then now_term f.program x else term.Variable (entry f.program x)) ≡ value_of no_composites u (if b then now_term f.program x else term.Variable (entry f.program x))
       entry_kept x true is = now_terms f.program s v before x ∙ ap (seen (type_of f.program x)) (kept x is) ∙ sym (now_terms f.program t u after x)
-      entry_kept x false is = fold-Variable (value_step v) (entry f.program x) ∙ entered x ∙ sym (fold-Variable (value_step u) (entry f.program x))
+      entry_kept x false is = value-Variable no_composites v (entry f.program x) ∙ entered x ∙ sym (value-Variable no_composites u (entry f.program x))
 
 -- ---- other values
 
-respects_changed : (v : Valuation) (name : Symbolic) (w : Value) → HasSort name.sort w → Respects v → Respects (changed v name w)
+respects_changed : (v : Valuation) (name : Symbolic) (w : Value) → HasSort no_composites name.sort w → Respects no_composites v → Respects no_composites (changed v name w)
 respects_changed v name w sorted respects y = by_name (same_name name y) refl
   where
-    by_name : (b : Bool) → same_name name y ≡ b → HasSort y.sort (if b then w else v y)
-    by_name true is = subst (λ (z : Symbolic). HasSort z.sort w) ((same_name-Decides name y).0 is) sorted
+    by_name : (b : Bool) → same_name name y ≡ b → HasSort no_composites y.sort (if b then w else v y)
+    by_name true is = subst (λ (z : Symbolic). HasSort no_composites z.sort w) ((same_name-Decides name y).0 is) sorted
     by_name false is = respects y
 
 -- a name of another symbol has its value
@@ -226,7 +223,7 @@ pub put_kept : (f : Frame) (at : List Counting) (s : Store) (x : VarId) (o : Opt
 put_kept f at s x o free y held = sym (look-put_other s x y o (other_held f.sub at x y free held))
 
 -- a variable that is not held is put, and its name takes what it counts as
-pub put_fits : (f : Frame) (at : List Counting) (s : Store) (x : VarId) (o : Option Value) (w : Value) (v : Valuation) → w ≡ seen (type_of f.program x) o → is_held f.sub at x ≡ false → HasSort (sort_of_var f.program x) w
+pub put_fits : (f : Frame) (at : List Counting) (s : Store) (x : VarId) (o : Option Value) (w : Value) (v : Valuation) → w ≡ seen (type_of f.program x) o → is_held f.sub at x ≡ false → HasSort no_composites (sort_of_var f.program x) w
     → ((u : Value) → o ≡ Some u → is_in (type_of f.program x) u ≡ true) → Fits f at s v → Fits f at (put s x o) (changed v (now f.program x) w)
 put_fits f at s x o w v counts free sorted typed fits =
     fits_kept f s (put s x o) v (changed v (now p x) w) fits.agrees agrees (respects_changed v (now p x) w sorted fits.respects) in_types (λ y is. other y (or_left (keeps_value f.sub y) (is_parameter at y) is))
@@ -256,7 +253,7 @@ put_fits f at s x o w v counts free sorted typed fits =
           | inr h ↦ fits.in_types y u (sym h.1 ∙ is)
         ]
 
-pub put_value_fits : (f : Frame) (at : List Counting) (s : Store) (x : VarId) (w : Value) (v : Valuation) → is_held f.sub at x ≡ false → HasSort (sort_of_var f.program x) w → is_in (type_of f.program x) w ≡ true → Fits f at s v
+pub put_value_fits : (f : Frame) (at : List Counting) (s : Store) (x : VarId) (w : Value) (v : Valuation) → is_held f.sub at x ≡ false → HasSort no_composites (sort_of_var f.program x) w → is_in (type_of f.program x) w ≡ true → Fits f at s v
     → Fits f at (put s x (Some w)) (changed v (now f.program x) w)
 put_value_fits f at s x w v free sorted typed = put_fits f at s x (Some w) w v refl free sorted (λ u is. subst (λ z. is_in (type_of f.program x) z ≡ true) (let one : w ≡ u = cc in one) typed)
 
@@ -287,7 +284,7 @@ last_is_fresh at x free = record {
 }
 
 -- such a name takes a value
-pub named_fits : (f : Frame) (at : List Counting) (s : Store) (v : Valuation) (name : Symbolic) (w : Value) → IsFresh at name → HasSort name.sort w → Fits f at s v → Fits f at s (changed v name w)
+pub named_fits : (f : Frame) (at : List Counting) (s : Store) (v : Valuation) (name : Symbolic) (w : Value) → IsFresh at name → HasSort no_composites name.sort w → Fits f at s v → Fits f at s (changed v name w)
 named_fits f at s v name w fresh sorted fits =
     fits_kept f s s v (changed v name w) fits.agrees (λ y. sym (unchanged_at v name w (now f.program y) (fresh.no_now y)) ∙ fits.agrees y) (respects_changed v name w sorted fits.respects) fits.in_types (λ y is. refl)
     (λ y. unchanged_at v name w (entry f.program y) (fresh.no_entry y)) at
@@ -302,24 +299,24 @@ pub record Reaches (f : Frame) (at : List Counting) (rest : ℕ → Tree) (s : S
 
 -- ---- values in types
 
-truth_within : (first last : ℤ) (w : Value) → HasSort Boolean w → is_within class.Boolean first last w ≡ true
+truth_within : (first last : ℤ) (w : Value) → HasSort no_composites Boolean w → is_within class.Boolean first last w ≡ true
 truth_within first last (value.Truth b) sorted = refl
-truth_within first last (value.Number n) sorted = absurd sorted
+truth_within first last _ sorted = absurd sorted
 
 -- after its check a value lies in the type
-pub past_range : (v : Valuation) (of : Subtype) (place : Place) (t : Term) (rest : Tree) → HasSort (sort_of_class of.base.class) (value_of v t) → Safe (range_check of place t rest) v → (is_in of (value_of v t) ≡ true) × Safe rest v
+pub past_range : (v : Valuation) (of : Subtype) (place : Place) (t : Term) (rest : Tree) → HasSort no_composites (sort_of_class of.base.class) (value_of no_composites v t) → Safe (range_check of place t rest) v → (is_in of (value_of no_composites v t) ≡ true) × Safe rest v
 past_range v of place t rest sorted safe = by_class of.base.class refl sorted safe
   where
-    past_number : in_type of t ≡ in_range of.first of.last t → HasSort Integer (value_of v t) → Safe (check RangeCheck place (in_type of t) rest) v
-        → (n : ℤ) × (value_of v t ≡ value.Number n) × (is_within class.Integer of.first of.last (value.Number n) ≡ true) × Safe rest v
+    past_number : in_type of t ≡ in_range of.first of.last t → HasSort no_composites Integer (value_of no_composites v t) → Safe (check RangeCheck place (in_type of t) rest) v
+        → (n : ℤ) × (value_of no_composites v t ≡ value.Number n) × (is_within class.Integer of.first of.last (value.Number n) ≡ true) × Safe rest v
     past_number is sorted safe =
-        let number = integer_is (value_of v t) sorted in
+        let number = integer_is (value_of no_composites v t) sorted in
         let past = past_check v [] RangeCheck place (in_type of t) rest tt safe in
         (number.0, number.1, within_range v of.first of.last t number.0 number.1 (subst (AllHold v) is past.0), past.1)
 
-    by_class : (c : Class) → of.base.class ≡ c → HasSort (sort_of_class c) (value_of v t) → Safe (checked_in c of place t rest) v → (is_within c of.first of.last (value_of v t) ≡ true) × Safe rest v
+    by_class : (c : Class) → of.base.class ≡ c → HasSort no_composites (sort_of_class c) (value_of no_composites v t) → Safe (checked_in c of place t rest) v → (is_within c of.first of.last (value_of no_composites v t) ≡ true) × Safe rest v
     by_class class.Integer is sorted safe = let past = past_number (ap (λ (c : Class). in_class c of.first of.last t) is) sorted safe in (ap (is_within class.Integer of.first of.last) past.1 ∙ past.2, past.3)
-    by_class class.Boolean is sorted safe = (truth_within of.first of.last (value_of v t) sorted, safe)
+    by_class class.Boolean is sorted safe = (truth_within of.first of.last (value_of no_composites v t) sorted, safe)
     by_class class.Enumeration is sorted safe = let past = past_number (ap (λ (c : Class). in_class c of.first of.last t) is) sorted safe in (ap (is_within class.Enumeration of.first of.last) past.1 ∙ past.2, past.3)
 
 -- ---- annotations

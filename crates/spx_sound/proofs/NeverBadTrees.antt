@@ -1,27 +1,30 @@
 -- Trees whose conditions are valid are safe.
-use Rattle.std.proofs.Common.{◌≡◌, ℕ, ◌+◌, Bool, true, false, if◌then◌else◌, List, [], ◌∷◌, ◌++◌, map, fold, refl, sym, ap, ap₂, ◌∙◌}
+use Rattle.std.proofs.Common.{◌≡◌, ℕ, ◌+◌, Bool, true, false, if◌then◌else◌, List, [], ◌∷◌, ◌++◌, map, fold, sym, ◌∙◌}
 use Rattle.std.specs.Prelude.{⊤}
 use Rattle.std.specs.List.{AllByRecursion, flat_map}
 use Rattle.std.proofs.lemmas.List.Elements.{All-from_recursion, recursion_from_All}
 use Rattle.spx_core.proofs.Callers.ListTests.{each_append}
 use Rattle.spx_term.specs.declared.term.Name.{Name}
 use Rattle.spx_term.specs.declared.term.Term.{Term}
-use Rattle.spx_term.specs.declared.term.Term.TheVariants.{Variable}
 use Rattle.spx_term.specs.declared.value.Value.{Value}
 use Rattle.spx_term.specs.Goals.{goal_of}
-use Rattle.spx_term.specs.Meaning.{value_of_prefix, value_of_op, Valuation, value_step, value_of, Holds, Respects, Valid}
+use Rattle.spx_term.specs.Meaning.{Valuation, value_of, Holds, Respects, Valid}
 use Rattle.spx_term.specs.Plain.{is_among}
-use Rattle.spx_term.specs.Steps.{Tree, Cut, Assume, Assign, Fresh, Prove, Split, assume_all, same_name, substituted_step, substituted, Claim, with_fact, with_value, claims_of, with_new, without_doubles, tidy}
+use Rattle.spx_term.specs.Steps.{Tree, Cut, Assume, Assign, Fresh, Prove, Split, assume_all, substituted, Claim, with_fact, with_value, claims_of, with_new, without_doubles, tidy}
+use Rattle.spx_term.specs.Equality.{same_name}
 use Rattle.spx_term.proofs.GoalLaws.{goal_holds}
-use Rattle.spx_term.proofs.Terms.{Cases, induct, fold-Number, fold-Truth, fold-Variable, fold-Prefix, fold-Infix}
+use Rattle.spx_term.proofs.SubstitutionLaws.{substitution_is_meant}
+use Rattle.spx_sound.proofs.Closed.{MayTake}
+use Rattle.spx_sound.proofs.SortedTrees.{IsSortedTree}
 use Rattle.spx_core.specs.declared.subprogram.Sub.{Sub}
 use Rattle.spx_core.specs.declared.program.Program.{Program}
+use Rattle.spx_formula.specs.Looks.{no_composites}
 use Rattle.spx_paths.specs.Walks.{trees_of}
 use Rattle.spx_paths.specs.Conditions.{body_claims, numbered, conditions_of}
 use Rattle.spx_paths.specs.Fit.{IsValid, HasValidConditions}
 
 abbrev pub AllHold : Valuation → List Term → Type 0
-AllHold v ts = AllByRecursion (λ t. Holds t v) ts
+AllHold v ts = AllByRecursion (λ t. Holds no_composites t v) ts
 
 -- the valuation with another value for a name
 abbrev pub changed : Valuation → Name → Value → Valuation
@@ -30,45 +33,21 @@ changed v x w y = if same_name x y then w else v y
 -- along every path each goal holds, under the facts before it
 abbrev pub Safe : Tree → Valuation → Type 0
 Safe Cut v = ⊤
-Safe (Assume t rest) v = Holds t v → Safe rest v
-Safe (Assign x t rest) v = Safe rest (changed v x (value_of v t))
+Safe (Assume t rest) v = Holds no_composites t v → Safe rest v
+Safe (Assign x t rest) v = Safe rest (changed v x (value_of no_composites v t))
 Safe (Fresh x rest) v = Safe rest v
 Safe (Prove kind place goals rest) v = AllHold v goals × Safe rest v
 Safe (Split first second) v = Safe first v × Safe second v
 
 -- ---- substitution
 
-module _ (x : Name) (t : Term) (v : Valuation) where
+module _ (x : Name) (t : Term) (takes : MayTake x t) (v : Valuation) where
   abbrev after : Valuation
-  after = changed v x (value_of v t)
-
-  abbrev Substitutes : Term → Type 0
-  Substitutes u = value_of v (substituted x t u) ≡ value_of after u
-
-  of_variable : (y : Name) (b : Bool) → value_of v (if b then t else Variable y) ≡ (if b then value_of v t else v y)
-  of_variable y true = refl
-  of_variable y false = fold-Variable (value_step v) y
-
-  substitutes_cases : Cases Substitutes
-  substitutes_cases = record {
-    number = λ n. ap (value_of v) (fold-Number (substituted_step x t) n) ∙ fold-Number (value_step v) n ∙ sym (fold-Number (value_step after) n);
-    truth = λ b. ap (value_of v) (fold-Truth (substituted_step x t) b) ∙ fold-Truth (value_step v) b ∙ sym (fold-Truth (value_step after) b);
-    variable = λ y. ap (value_of v) (fold-Variable (substituted_step x t) y) ∙ of_variable y (same_name x y) ∙ sym (fold-Variable (value_step after) y);
-    prefix = λ op a p.
-        ap (value_of v) (fold-Prefix (substituted_step x t) op a)
-        ∙ fold-Prefix (value_step v) op (substituted x t a)
-        ∙ ap (value_of_prefix op) p
-        ∙ sym (fold-Prefix (value_step after) op a);
-    «infix» = λ op a b p q.
-        ap (value_of v) (fold-Infix (substituted_step x t) op a b)
-        ∙ fold-Infix (value_step v) op (substituted x t a) (substituted x t b)
-        ∙ ap₂ (value_of_op op) p q
-        ∙ sym (fold-Infix (value_step after) op a b);
-  }
+  after = changed v x (value_of no_composites v t)
 
   -- a term with t in the place of x has the value that it has where x has the value of t
-  pub value-substituted : (u : Term) → Substitutes u
-  value-substituted = induct Substitutes substitutes_cases
+  value-substituted : (u : Term) → value_of no_composites v (substituted x t u) ≡ value_of no_composites after u
+  value-substituted u = substitution_is_meant no_composites x t u takes.0 takes.1 v
 
   hold_after : (us : List Term) → AllHold v (map (substituted x t) us) → AllHold after us
   hold_after [] h = tt
@@ -87,33 +66,33 @@ IsMet v c = AllHold v c.hyps → AllHold v c.goals
 abbrev AreMet : Valuation → List Claim → Type 0
 AreMet v cs = AllByRecursion (IsMet v) cs
 
-met_under : (v : Valuation) (t : Term) (cs : List Claim) → Holds t v → AreMet v (map (with_fact t) cs) → AreMet v cs
+met_under : (v : Valuation) (t : Term) (cs : List Claim) → Holds no_composites t v → AreMet v (map (with_fact t) cs) → AreMet v cs
 met_under v t [] h met = tt
 met_under v t (c ∷ cs) h met = (λ hyps. met.0 (h, hyps), met_under v t cs h met.1)
 
-met_after : (v : Valuation) (x : Name) (t : Term) (cs : List Claim) → AreMet v (map (with_value x t) cs) → AreMet (changed v x (value_of v t)) cs
-met_after v x t [] met = tt
-met_after v x t (c ∷ cs) met = (λ hyps. hold_after x t v c.goals (met.0 (hold_before x t v c.hyps hyps)), met_after v x t cs met.1)
+met_after : (v : Valuation) (x : Name) (t : Term) → MayTake x t → (cs : List Claim) → AreMet v (map (with_value x t) cs) → AreMet (changed v x (value_of no_composites v t)) cs
+met_after v x t takes [] met = tt
+met_after v x t takes (c ∷ cs) met = (λ hyps. hold_after x t takes v c.goals (met.0 (hold_before x t takes v c.hyps hyps)), met_after v x t takes cs met.1)
 
 met_both : (v : Valuation) (cs ds : List Claim) → AreMet v (cs ++ ds) → AreMet v cs × AreMet v ds
 met_both v [] ds met = (tt, met)
 met_both v (c ∷ cs) ds met = let parts = met_both v cs ds met.1 in ((met.0, parts.0), parts.1)
 
 -- a tree whose claims are met is safe
-safe : (tree : Tree) (v : Valuation) → AreMet v (claims_of tree) → Safe tree v
-safe Cut v met = tt
-safe (Assume t rest) v met = λ h. safe rest v (met_under v t (claims_of rest) h met)
-safe (Assign x t rest) v met = safe rest (changed v x (value_of v t)) (met_after v x t (claims_of rest) met)
-safe (Fresh x rest) v met = safe rest v met
-safe (Prove kind place goals rest) v met = (met.0 tt, safe rest v met.1)
-safe (Split first second) v met = let parts = met_both v (claims_of first) (claims_of second) met in (safe first v parts.0, safe second v parts.1)
+safe : (tree : Tree) → IsSortedTree tree → (v : Valuation) → AreMet v (claims_of tree) → Safe tree v
+safe Cut sorted v met = tt
+safe (Assume t rest) sorted v met = λ h. safe rest sorted.1 v (met_under v t (claims_of rest) h met)
+safe (Assign x t rest) sorted v met = safe rest sorted.1.1 (changed v x (value_of no_composites v t)) (met_after v x t sorted.1.0 (claims_of rest) met)
+safe (Fresh x rest) sorted v met = safe rest sorted v met
+safe (Prove kind place goals rest) sorted v met = (met.0 tt, safe rest sorted.1 v met.1)
+safe (Split first second) sorted v met = let parts = met_both v (claims_of first) (claims_of second) met in (safe first sorted.0 v parts.0, safe second sorted.1 v parts.1)
 
 abbrev pub AllSafe : Valuation → List Tree → Type 0
 AllSafe v trees = AllByRecursion (λ tree. Safe tree v) trees
 
-safe_trees : (trees : List Tree) (v : Valuation) → AreMet v (flat_map claims_of trees) → AllSafe v trees
-safe_trees [] v met = tt
-safe_trees (tree ∷ trees) v met = let parts = met_both v (claims_of tree) (flat_map claims_of trees) met in (safe tree v parts.0, safe_trees trees v parts.1)
+safe_trees : (trees : List Tree) → AllByRecursion IsSortedTree trees → (v : Valuation) → AreMet v (flat_map claims_of trees) → AllSafe v trees
+safe_trees [] sorted v met = tt
+safe_trees (tree ∷ trees) sorted v met = let parts = met_both v (claims_of tree) (flat_map claims_of trees) met in (safe tree sorted.0 v parts.0, safe_trees trees sorted.1 v parts.1)
 
 -- ---- conditions
 
@@ -134,20 +113,20 @@ module _ (P : Term → Type 0) where
   each_without_doubles facts [] each h = each
   each_without_doubles facts (t ∷ ts) each h = each_without_doubles (with_new facts t) ts (each_with_new facts t each h.0) h.1
 
-met_where_valid : (v : Valuation) → Respects v → (hyps goals : List Term) → Valid (without_doubles hyps) (goal_of goals) → AllHold v hyps → AllHold v goals
+met_where_valid : (v : Valuation) → Respects no_composites v → (hyps goals : List Term) → Valid no_composites (without_doubles hyps) (goal_of goals) → AllHold v hyps → AllHold v goals
 met_where_valid v respects hyps goals valid hold =
-    let facts = All-from_recursion (λ t. Holds t v) (without_doubles hyps) (each_without_doubles (λ t. Holds t v) [] hyps tt hold) in
-    recursion_from_All (λ t. Holds t v) goals ((goal_holds v goals).0 (valid v respects facts))
+    let facts = All-from_recursion (λ t. Holds no_composites t v) (without_doubles hyps) (each_without_doubles (λ t. Holds no_composites t v) [] hyps tt hold) in
+    recursion_from_All (λ t. Holds no_composites t v) goals ((goal_holds no_composites v goals).0 (valid v respects facts))
 
-met_by : (v : Valuation) → Respects v → (name : List ℕ) (n : ℕ) (cs : List Claim) → AllByRecursion IsValid (numbered name n (map tidy cs)) → AreMet v cs
+met_by : (v : Valuation) → Respects no_composites v → (name : List ℕ) (n : ℕ) (cs : List Claim) → AllByRecursion IsValid (numbered name n (map tidy cs)) → AreMet v cs
 met_by v respects name n [] valid = tt
 met_by v respects name n (c ∷ cs) valid = (met_where_valid v respects c.hyps c.goals valid.0, met_by v respects name (n + 1) cs valid.1)
 
--- where its conditions are valid, the trees of a subprogram are safe at every valuation
-pub safe_sub : (p : Program) (sub : Sub) → HasValidConditions p sub → (v : Valuation) → Respects v → AllSafe v (trees_of p sub)
+-- where its conditions are valid, the sorted trees of a subprogram are safe at every valuation
+pub safe_sub : (p : Program) (sub : Sub) → AllByRecursion IsSortedTree (trees_of p sub) → HasValidConditions p sub → (v : Valuation) → Respects no_composites v → AllSafe v (trees_of p sub)
 unfolding conditions_of
-safe_sub p sub valid v respects =
-    safe_trees (trees_of p sub) v (met_by v respects sub.name.name.text 1 (body_claims p sub) (recursion_from_All IsValid (conditions_of p sub) valid))
+safe_sub p sub sorted valid v respects =
+    safe_trees (trees_of p sub) sorted v (met_by v respects sub.name.name.text 1 (body_claims p sub) (recursion_from_All IsValid (conditions_of p sub) valid))
 
 -- ---- what a safe tree says
 

@@ -3,18 +3,18 @@ ghost use Rattle.std.specs.Prelude.{◌≡◌};
 ghost use Rattle.spx_meaning.specs.Literals.{base_in, base_of, literal, value_of};
 
 use spx_core::{BaseType, Class, CoreExpr, ExprType, UNIVERSAL, variable_of};
-use spx_term::Value;
+use spx_term::Scalar;
 use spx_types::judge;
 
 /// A static value of a type. That of a Boolean type is a position.
-fn value_of(of: ExprType, value: i128) -> Value
+fn value_of(of: ExprType, value: i128) -> Scalar
     ensures { result ≡ value_of of value }
 {
     match of {
-        ExprType::Universal => Value::Number(value),
+        ExprType::Universal => Scalar::number(value),
         ExprType::Of(base) => match base.class {
-            Class::Integer | Class::Enumeration => Value::Number(value),
-            Class::Boolean => Value::Truth(value != 0),
+            Class::Integer | Class::Enumeration => Scalar::number(value),
+            Class::Boolean => Scalar::truth(value != 0),
         },
     }
 }
@@ -29,7 +29,7 @@ fn base_in(of: ExprType) -> BaseType
 }
 
 /// The value of an expression that is judged to be static and to break no rule.
-fn judged_literal(expr: &CoreExpr) -> Option<Value>
+fn judged_literal(expr: &CoreExpr) -> Option<Scalar>
     ensures { result ≡ literal expr.now }
 {
     match judge(expr) {
@@ -39,7 +39,7 @@ fn judged_literal(expr: &CoreExpr) -> Option<Value>
 }
 
 /// The value of a static expression that breaks no rule.
-pub fn literal(expr: &CoreExpr) -> Option<Value>
+pub fn literal(expr: &CoreExpr) -> Option<Scalar>
     ensures { result ≡ literal expr.now }
 {
     match expr {

@@ -23,6 +23,22 @@ fn mark_operands(terms: &Terms, marks: &mut Items<bool>, id: TermId)
             marks.set(right.0, true);
             return;
         }
+        Node::Blank(_) => return,
+        Node::Unary(_, operand) => {
+            marks.set(operand.0, true);
+            return;
+        }
+        Node::Binary(_, left, right) => {
+            marks.set(left.0, true);
+            marks.set(right.0, true);
+            return;
+        }
+        Node::Ternary(_, first, second, third) => {
+            marks.set(first.0, true);
+            marks.set(second.0, true);
+            marks.set(third.0, true);
+            return;
+        }
     }
 }
 

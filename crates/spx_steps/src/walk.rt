@@ -129,6 +129,28 @@ impl Walk {
                 let made = self.terms.make(Node::Infix(op, left, right))?;
                 Ok(made)
             }
+            Node::Blank(id) => {
+                let made = self.terms.make(Node::Blank(id))?;
+                Ok(made)
+            }
+            Node::Unary(op, operand) => {
+                let operand = self.value_of(alloc, names, operand, depth)?;
+                let made = self.terms.make(Node::Unary(op, operand))?;
+                Ok(made)
+            }
+            Node::Binary(op, left, right) => {
+                let left = self.value_of(alloc, names, left, depth)?;
+                let right = self.value_of(alloc, names, right, depth)?;
+                let made = self.terms.make(Node::Binary(op, left, right))?;
+                Ok(made)
+            }
+            Node::Ternary(op, first, second, third) => {
+                let first = self.value_of(alloc, names, first, depth)?;
+                let second = self.value_of(alloc, names, second, depth)?;
+                let third = self.value_of(alloc, names, third, depth)?;
+                let made = self.terms.make(Node::Ternary(op, first, second, third))?;
+                Ok(made)
+            }
         }
     }
 

@@ -3,7 +3,7 @@ ghost use Rattle.std.specs.Prelude.{◌≡◌, length, IfOk};
 
 use spx_core::{INTEGER, Mode, Program, Var, VarId, VarKind};
 use spx_interp::{Finish, elaborate};
-use spx_meaning::{Store, Value};
+use spx_meaning::{Scalar, Store};
 use spx_text::Text;
 use sqlite_items::Items;
 use std::alloc::{AllocError, Global};
@@ -42,15 +42,15 @@ fn a_store_keeps_what_it_is_given(rt: HostRuntime) -> Result<(), Fail> {
     let mut store = Store::new(alloc, &program(alloc)?)?;
     assert_eq!(rt; store.get(X), None);
     assert_eq!(rt; store.get(Y), None);
-    store.set(X, Value::Number(7));
-    assert_eq!(rt; store.get(X), Some(Value::Number(7)));
+    store.set(X, Scalar::number(7));
+    assert_eq!(rt; store.get(X), Some(Scalar::number(7)));
     assert_eq!(rt; store.get(Y), None);
     let copied = store.copy(alloc)?;
-    store.set(Y, Value::Truth(true));
+    store.set(Y, Scalar::truth(true));
     store.unset(X);
     assert_eq!(rt; store.get(X), None);
-    assert_eq!(rt; store.get(Y), Some(Value::Truth(true)));
-    assert_eq!(rt; copied.get(X), Some(Value::Number(7)));
+    assert_eq!(rt; store.get(Y), Some(Scalar::truth(true)));
+    assert_eq!(rt; copied.get(X), Some(Scalar::number(7)));
     assert_eq!(rt; copied.get(Y), None);
     Ok(())
 }

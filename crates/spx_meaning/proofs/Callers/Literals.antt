@@ -1,5 +1,5 @@
 -- An implicit conversion of a static expression has its value.
-use Rattle.std.proofs.Common.{◌≡◌, ℤ, Bool, true, false, if◌then◌else◌, Option, Some, None, option_map, Ok, Err, refl, sym, ap, ◌∙◌}
+use Rattle.std.proofs.Common.{◌≡◌, ℤ, Bool, true, false, if◌then◌else◌, Some, option_map, Ok, Err, refl, sym, ap, ◌∙◌}
 use Rattle.std.proofs.lemmas.Bool.{and_parts}
 use Rattle.spx_text.specs.declared.place.Place.{Place}
 use Rattle.spx_core.specs.declared.entity.BaseType.{BaseType}
@@ -16,7 +16,7 @@ use Rattle.spx_core.specs.Types.{has_truths, is_boolean, is_numeric, is_of, is_t
 use Rattle.spx_core.proofs.Callers.Expressions.{fold-Implicit}
 use Rattle.spx_term.specs.declared.value.Value.{Value}
 use Rattle.spx_term.specs.declared.value.Value.TheVariants.{Number, Truth}
-use Rattle.spx_meaning.specs.Literals.{literal, literal_in, value_of}
+use Rattle.spx_meaning.specs.Literals.{literal, literal_in}
 
 numbers_are_no_truths : (c : Class) → is_numeric c ≡ true → false ≡ has_truths c
 numbers_are_no_truths Integer is = refl

@@ -12,7 +12,7 @@ use Rattle.spx_formula.proofs.TermLaws.{made_along, made_by, made_infix, made_me
 use Rattle.spx_formula.proofs.terms.+term_id.Goals as goal
 
 pub returns-in-Some : goal.returns-in-Some
-returns-in-Some t c = made_along c.literal-in-Some.result _ _ _ c.literal-in-Some.ensures.added (sym (static_is _ _ _ c.in-Some.value (sym c.in-Some.ensures)))
+returns-in-Some t c = made_along c.scalar.result _ _ _ c.scalar.ensures.added (sym (static_is _ _ _ c.in-Some.value (sym c.in-Some.ensures)))
 
 pub returns-in-Number : goal.returns-in-Number
 returns-in-Number t c = made_by c.make.result _ c.make.ensures.grown c.make.ensures.made (ap Number (to_z-of_z w128 c.in-Number.value (search rules)) ∙ sym (number_term _ _ _ _ _ c.in-Number.is))

@@ -1,4 +1,4 @@
-use Rattle.std.proofs.Common.{ap, not}
+use Rattle.std.proofs.Common.{◌∙◌, ap, not}
 use Rattle.spx_term.specs.declared.value.Value.TheVariants.{Truth}
 use Rattle.spx_interp.proofs.BitLaws.{member-NotIn}
 use Rattle.spx_interp.proofs.operations.member.Goals as goal
@@ -6,4 +6,4 @@ use Rattle.spx_interp.proofs.operations.member.Goals as goal
 pub returns-in-NotIn : goal.returns-in-NotIn
 returns-in-NotIn c =
     rw (c.in-NotIn.is, member-NotIn c.in-NotIn.field-0 c.args.tested c.args.low c.args.high)
-    (ap (λ b. Truth (not b)) c.lies_between-within.ensures)
+    (c.truth-in-NotIn.ensures ∙ ap (λ b. Truth (not b)) c.lies_between-within.ensures)

@@ -3,7 +3,7 @@ use Rattle.spx_term.specs.declared.term.Term.TheVariants as term
 use Rattle.spx_arena.specs.declared.terms.Node.TheVariants as node
 use Rattle.spx_arena.specs.Sharing.{tree_at}
 use Rattle.spx_simplify.proofs.Tables.{given}
-use Rattle.spx_simplify.proofs.Verdicts.{plain_known, plain_number, plain_truth, plain_variable, plain_prefix, plain_both, plain_either, plain_under, plain_settled}
+use Rattle.spx_simplify.proofs.Verdicts.{plain_known, plain_number, plain_truth, plain_variable, plain_prefix, plain_blank, plain_unary, plain_binary, plain_ternary, plain_both, plain_either, plain_under, plain_settled}
 use Rattle.spx_simplify.proofs.Outcomes.{some_at, halves}
 use Rattle.spx_simplify.proofs.goals.settle.Goals as goal
 
@@ -86,3 +86,31 @@ returns-in-Variable-clause-parts c = some_at c.args.terms.now c.args.goal (node.
 
 pub returns-in-Prefix-clause-parts : goal.returns-in-Prefix-clause-parts
 returns-in-Prefix-clause-parts c = some_at c.args.terms.now c.args.goal (node.Prefix c.in-Prefix.field-0 c.in-Prefix.field-1) c.in-Prefix.ensures.tree
+
+pub returns-in-Blank-clause-verdict : goal.returns-in-Blank-clause-verdict
+returns-in-Blank-clause-verdict c = λ hyps knows.
+    plain_blank c.args.terms.now hyps c.args.known.now knows c.args.goal c.requires.within (sym c.has.ensures ∙ c.if-has.false) c.in-Blank.field-0 c.in-Blank.ensures.tree
+
+pub returns-in-Blank-clause-parts : goal.returns-in-Blank-clause-parts
+returns-in-Blank-clause-parts c = some_at c.args.terms.now c.args.goal (node.Blank c.in-Blank.field-0) c.in-Blank.ensures.tree
+
+pub returns-in-Unary-clause-verdict : goal.returns-in-Unary-clause-verdict
+returns-in-Unary-clause-verdict c = λ hyps knows.
+    plain_unary c.args.terms.now hyps c.args.known.now knows c.args.goal c.requires.within (sym c.has.ensures ∙ c.if-has.false) c.in-Unary.field-0 (tree_at c.args.terms.now c.in-Unary.field-1) c.in-Unary.ensures.tree
+
+pub returns-in-Unary-clause-parts : goal.returns-in-Unary-clause-parts
+returns-in-Unary-clause-parts c = some_at c.args.terms.now c.args.goal (node.Unary c.in-Unary.field-0 c.in-Unary.field-1) c.in-Unary.ensures.tree
+
+pub returns-in-Binary-clause-verdict : goal.returns-in-Binary-clause-verdict
+returns-in-Binary-clause-verdict c = λ hyps knows.
+    plain_binary c.args.terms.now hyps c.args.known.now knows c.args.goal c.requires.within (sym c.has.ensures ∙ c.if-has.false) c.in-Binary.field-0 (tree_at c.args.terms.now c.in-Binary.field-1) (tree_at c.args.terms.now c.in-Binary.field-2) c.in-Binary.ensures.tree
+
+pub returns-in-Binary-clause-parts : goal.returns-in-Binary-clause-parts
+returns-in-Binary-clause-parts c = some_at c.args.terms.now c.args.goal (node.Binary c.in-Binary.field-0 c.in-Binary.field-1 c.in-Binary.field-2) c.in-Binary.ensures.tree
+
+pub returns-in-Ternary-clause-verdict : goal.returns-in-Ternary-clause-verdict
+returns-in-Ternary-clause-verdict c = λ hyps knows.
+    plain_ternary c.args.terms.now hyps c.args.known.now knows c.args.goal c.requires.within (sym c.has.ensures ∙ c.if-has.false) c.in-Ternary.field-0 (tree_at c.args.terms.now c.in-Ternary.field-1) (tree_at c.args.terms.now c.in-Ternary.field-2) (tree_at c.args.terms.now c.in-Ternary.field-3) c.in-Ternary.ensures.tree
+
+pub returns-in-Ternary-clause-parts : goal.returns-in-Ternary-clause-parts
+returns-in-Ternary-clause-parts c = some_at c.args.terms.now c.args.goal (node.Ternary c.in-Ternary.field-0 c.in-Ternary.field-1 c.in-Ternary.field-2 c.in-Ternary.field-3) c.in-Ternary.ensures.tree

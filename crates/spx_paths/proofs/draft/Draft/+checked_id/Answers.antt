@@ -5,7 +5,7 @@ use Rattle.spx_core.specs.declared.expression.CoreExpr.{CoreExpr, the_lemmas}
 use Rattle.spx_core.specs.declared.program.Program.{Program}
 use Rattle.spx_core.specs.Places.{place_of}
 use Rattle.spx_term.specs.declared.term.Term.TheVariants.{Number}
-use Rattle.spx_term.specs.Folding.{term_of as static_term}
+use Rattle.spx_term.specs.Folding.{static_term}
 use Rattle.spx_formula.specs.Terms.{now_term}
 use Rattle.spx_arena.specs.declared.terms.TermId.{TermId}
 use Rattle.spx_paths.specs.declared.draft.Draft.{Draft}
@@ -19,10 +19,10 @@ at_part : {p : Program} {lefts : List TermId} {old new : Draft} {a b : CoreExpr}
 at_part {p} {lefts} {old} {new} {a} {b} {id} e v = subst (λ (x : CoreExpr). Checked p lefts old new x id) e v
 
 pub checked_id-returns-in-Some-clause-keeps : goal.checked_id-returns-in-Some-clause-keeps
-checked_id-returns-in-Some-clause-keeps t c = only_keeps c.requires.whole c.in_ok-literal.ensures.added.grown
+checked_id-returns-in-Some-clause-keeps t c = only_keeps c.requires.whole c.in_ok-scalar.ensures.added.grown
 
 pub checked_id-returns-in-Some-clause-makes : goal.checked_id-returns-in-Some-clause-makes
-checked_id-returns-in-Some-clause-makes t c = eval_static c.in-Some.value c.in-Some.ensures (only_gives c.requires.whole (static_term c.in-Some.value) c.in_ok-literal.ensures.added refl)
+checked_id-returns-in-Some-clause-makes t c = eval_static c.in-Some.value c.in-Some.ensures (only_gives c.requires.whole (static_term c.in-Some.value) c.in_ok-scalar.ensures.added refl)
 
 pub checked_id-returns-in_ok-code_id-in-Number-clause-keeps : goal.checked_id-returns-in_ok-code_id-in-Number-clause-keeps
 checked_id-returns-in_ok-code_id-in-Number-clause-keeps t c = term_keeps c.requires.whole c.in_ok-code_id-in-Number.ensures

@@ -3,7 +3,7 @@ use Rattle.spx_core.specs.declared.entity.VarId.{VarId}
 use Rattle.spx_term.specs.declared.term.Name.{Name}
 use Rattle.spx_term.specs.declared.value.Value.{Value}
 use Rattle.std.specs.Prelude.{Option}
-use Rattle.spx_term.specs.Folding.{term_of as static_term}
+use Rattle.spx_term.specs.Folding.{static_term}
 use Rattle.spx_term.specs.Steps.{Assign}
 use Rattle.spx_meaning.specs.Runs.{initial_value}
 use Rattle.spx_steps.specs.Trees.{step_tree}

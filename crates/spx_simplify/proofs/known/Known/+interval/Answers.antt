@@ -13,3 +13,11 @@ returns-in_ok-interval-in-Prefix-2-clause-keeps t c =
 pub returns-in_ok-interval-in-Infix-3-clause-keeps : goal.returns-in_ok-interval-in-Infix-3-clause-keeps
 returns-in_ok-interval-in-Infix-3-clause-keeps t c =
     keeps_twice (keeps_twice c.in_ok-interval-in-Infix.ensures.keeps c.in_ok-interval-in-Infix-2.ensures.keeps) c.in_ok-interval-in-Infix-3.ensures.keeps
+
+pub returns-in_ok-interval-in-Unary-2-clause-keeps : goal.returns-in_ok-interval-in-Unary-2-clause-keeps
+returns-in_ok-interval-in-Unary-2-clause-keeps t c =
+    keeps_twice c.in_ok-interval-in-Unary.ensures.keeps c.in_ok-interval-in-Unary-2.ensures.keeps
+
+pub returns-in_ok-interval-in-Binary-2-clause-keeps : goal.returns-in_ok-interval-in-Binary-2-clause-keeps
+returns-in_ok-interval-in-Binary-2-clause-keeps t c =
+    keeps_twice c.in_ok-interval-in-Binary.ensures.keeps c.in_ok-interval-in-Binary-2.ensures.keeps

@@ -7,7 +7,9 @@ abbrev pub invariant-loop-at : goal.invariant-loop-at
 invariant-loop-at l = record {
   facts : length l.facts ≡ l.at;
   bounds : length l.bounds ≡ l.at;
+  said : length l.said ≡ l.at;
   places : length l.places ≡ l.at;
   none : (i : ℕ) → test_at l.facts i ≡ false;
   free : (i : ℕ) → interval_at l.bounds i ≡ unbounded;
+  unsaid : (i : ℕ) → test_at l.said i ≡ false;
 }

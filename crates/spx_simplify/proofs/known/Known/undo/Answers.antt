@@ -1,29 +1,64 @@
 use Rattle.std.proofs.Common.{◌∙◌, refl, ap, length, length-set}
+use Rattle.spx_term.specs.declared.term.Term.TheVariants as term
+use Rattle.spx_term.specs.declared.term.UnaryOp.TheVariants as unary
+use Rattle.spx_arena.specs.Sharing.{tree_at}
 use Rattle.spx_arena.specs.declared.terms.Node.TheVariants as node
 use Rattle.spx_simplify.proofs.Places.{leaves_same}
-use Rattle.spx_simplify.proofs.Tables.{less_infix, less_other}
+use Rattle.spx_simplify.proofs.Tables.{less_in, less_infix, less_other}
 use Rattle.spx_simplify.proofs.known.Known.undo.Goals as goal
 
 pub returns-in-Infix-clause-knows : goal.returns-in-Infix-clause-knows
 returns-in-Infix-clause-knows c = λ hyps restores knows.
     let ts = c.args.terms.now in
     let s = c.requires.sized in
-    let p = c.set_bounds.ensures (length ts) (record { facts = ap length c.set.ensures ∙ length-set c.args.self.now.facts c.args.change.fact.0 c.args.change.was ∙ s.facts; bounds = s.bounds; places = s.places; placed = record { ids = s.placed.ids; at = s.placed.at } }) in
-    less_infix c.args.terms.now hyps c.args.self.now _ c.set_bounds.new.self c.set_bounds-in-Infix.new.self c.args.change c.in-Infix.field-0 c.in-Infix.left c.in-Infix.right c.closed.ensures c.distinct.ensures restores knows c.requires.sized c.set.ensures refl refl
+    let p = c.set_bounds.ensures (length ts) (record { facts = ap length c.set.ensures ∙ length-set c.args.self.now.facts c.args.change.fact.0 c.args.change.was ∙ s.facts; bounds = s.bounds; said = s.said; places = s.places; placed = record { ids = s.placed.ids; at = s.placed.at } }) in
+    less_infix c.args.terms.now hyps c.args.self.now _ c.set_bounds.new.self c.set_bounds-in-Infix.new.self c.args.change c.in-Infix.field-0 c.in-Infix.left c.in-Infix.right c.closed.ensures c.distinct.ensures restores knows c.requires.sized c.set.ensures refl refl refl
     p (c.set_bounds-in-Infix.ensures (length ts) p.sized) c.in-Infix.ensures.tree c.in-Infix.ensures.below
 
 pub returns-in-Number-clause-knows : goal.returns-in-Number-clause-knows
 returns-in-Number-clause-knows c = λ hyps restores knows.
-    less_other c.args.terms.now hyps c.args.self.now _ c.args.change c.distinct.ensures restores knows c.requires.sized c.set.ensures (leaves_same _ _ refl refl) (node.Number c.in-Number.field-0) refl c.in-Number.ensures.tree (λ op a b e. cc)
+    less_other c.args.terms.now hyps c.args.self.now _ c.args.change c.distinct.ensures restores knows c.requires.sized c.set.ensures (leaves_same _ _ refl refl refl) (node.Number c.in-Number.field-0) refl refl c.in-Number.ensures.tree refl
 
 pub returns-in-Truth-clause-knows : goal.returns-in-Truth-clause-knows
 returns-in-Truth-clause-knows c = λ hyps restores knows.
-    less_other c.args.terms.now hyps c.args.self.now _ c.args.change c.distinct.ensures restores knows c.requires.sized c.set.ensures (leaves_same _ _ refl refl) (node.Truth c.in-Truth.field-0) refl c.in-Truth.ensures.tree (λ op a b e. cc)
+    less_other c.args.terms.now hyps c.args.self.now _ c.args.change c.distinct.ensures restores knows c.requires.sized c.set.ensures (leaves_same _ _ refl refl refl) (node.Truth c.in-Truth.field-0) refl refl c.in-Truth.ensures.tree refl
 
 pub returns-in-Variable-clause-knows : goal.returns-in-Variable-clause-knows
 returns-in-Variable-clause-knows c = λ hyps restores knows.
-    less_other c.args.terms.now hyps c.args.self.now _ c.args.change c.distinct.ensures restores knows c.requires.sized c.set.ensures (leaves_same _ _ refl refl) (node.Variable c.in-Variable.field-0) refl c.in-Variable.ensures.tree (λ op a b e. cc)
+    less_other c.args.terms.now hyps c.args.self.now _ c.args.change c.distinct.ensures restores knows c.requires.sized c.set.ensures (leaves_same _ _ refl refl refl) (node.Variable c.in-Variable.field-0) refl refl c.in-Variable.ensures.tree refl
 
 pub returns-in-Prefix-clause-knows : goal.returns-in-Prefix-clause-knows
 returns-in-Prefix-clause-knows c = λ hyps restores knows.
-    less_other c.args.terms.now hyps c.args.self.now _ c.args.change c.distinct.ensures restores knows c.requires.sized c.set.ensures (leaves_same _ _ refl refl) (node.Prefix c.in-Prefix.field-0 c.in-Prefix.field-1) refl c.in-Prefix.ensures.tree (λ op a b e. cc)
+    less_other c.args.terms.now hyps c.args.self.now _ c.args.change c.distinct.ensures restores knows c.requires.sized c.set.ensures (leaves_same _ _ refl refl refl) (node.Prefix c.in-Prefix.field-0 c.in-Prefix.field-1) refl refl c.in-Prefix.ensures.tree refl
+
+pub returns-in-Blank-clause-knows : goal.returns-in-Blank-clause-knows
+returns-in-Blank-clause-knows c = λ hyps restores knows.
+    less_other c.args.terms.now hyps c.args.self.now _ c.args.change c.distinct.ensures restores knows c.requires.sized c.set.ensures (leaves_same _ _ refl refl refl) (node.Blank c.in-Blank.field-0) refl refl c.in-Blank.ensures.tree refl
+
+pub returns-in-Binary-clause-knows : goal.returns-in-Binary-clause-knows
+returns-in-Binary-clause-knows c = λ hyps restores knows.
+    less_other c.args.terms.now hyps c.args.self.now _ c.args.change c.distinct.ensures restores knows c.requires.sized c.set.ensures (leaves_same _ _ refl refl refl) (node.Binary c.in-Binary.field-0 c.in-Binary.field-1 c.in-Binary.field-2) refl refl c.in-Binary.ensures.tree refl
+
+pub returns-in-Ternary-clause-knows : goal.returns-in-Ternary-clause-knows
+returns-in-Ternary-clause-knows c = λ hyps restores knows.
+    less_other c.args.terms.now hyps c.args.self.now _ c.args.change c.distinct.ensures restores knows c.requires.sized c.set.ensures (leaves_same _ _ refl refl refl) (node.Ternary c.in-Ternary.field-0 c.in-Ternary.field-1 c.in-Ternary.field-2 c.in-Ternary.field-3) refl refl c.in-Ternary.ensures.tree refl
+
+pub returns-in-In-clause-knows : goal.returns-in-In-clause-knows
+returns-in-In-clause-knows c = λ hyps restores knows.
+    let ts = c.args.terms.now in
+    let s = c.requires.sized in
+    less_in ts hyps c.args.self.now _ c.set_said.new.self c.args.change c.in-In.field-0 c.in-Unary.operand c.distinct.ensures restores knows s c.set.ensures refl refl refl
+    (c.set_said.ensures (length ts) (record { facts = ap length c.set.ensures ∙ length-set c.args.self.now.facts c.args.change.fact.0 c.args.change.was ∙ s.facts; bounds = s.bounds; said = s.said; places = s.places; placed = record { ids = s.placed.ids; at = s.placed.at } }))
+    (c.in-Unary.ensures.tree ∙ ap (λ o. term.Unary o (tree_at ts c.in-Unary.operand)) c.in-In.is) c.in-Unary.ensures.below
+
+pub returns-in-Field-clause-knows : goal.returns-in-Field-clause-knows
+returns-in-Field-clause-knows c = λ hyps restores knows.
+    let ts = c.args.terms.now in
+    less_other ts hyps c.args.self.now _ c.args.change c.distinct.ensures restores knows c.requires.sized c.set.ensures (leaves_same _ _ refl refl refl) (node.Unary (unary.Field c.in-Field.field-0 c.in-Field.field-1) c.in-Unary.operand) refl refl
+    (c.in-Unary.ensures.tree ∙ ap (λ o. term.Unary o (tree_at ts c.in-Unary.operand)) c.in-Field.is) refl
+
+pub returns-in-Others-clause-knows : goal.returns-in-Others-clause-knows
+returns-in-Others-clause-knows c = λ hyps restores knows.
+    let ts = c.args.terms.now in
+    less_other ts hyps c.args.self.now _ c.args.change c.distinct.ensures restores knows c.requires.sized c.set.ensures (leaves_same _ _ refl refl refl) (node.Unary (unary.Others c.in-Others.field-0) c.in-Unary.operand) refl refl
+    (c.in-Unary.ensures.tree ∙ ap (λ o. term.Unary o (tree_at ts c.in-Unary.operand)) c.in-Others.is) refl

@@ -1,0 +1,14 @@
+use Rattle.std.proofs.Common.{refl}
+use denote.Hole.Carrier.{hidden}
+use Rattle.spx_term.specs.declared.term.Term.TheBlock.{hidden-the_row-Term-0}
+use Rattle.spx_term.specs.Folding.{simplified_binary, simplified_ternary, found_in_ternary, taken}
+use Rattle.spx_examples.proofs.CompositeFolding.{number_to, variable_to, binary_to, ternary_to}
+use Rattle.spx_examples.proofs.composite_laws.an_updated_element_is_read.Goals as goal
+
+pub returns : goal.returns
+unfolding simplified_binary simplified_ternary found_in_ternary taken hidden hidden-the_row-Term-0
+returns c = record {
+  updated = binary_to _ _ _ (ternary_to _ _ _ _ variable_to number_to number_to refl) number_to refl;
+  another = binary_to _ _ _ (ternary_to _ _ _ _ variable_to number_to number_to refl) number_to refl;
+  at_the_end = binary_to _ _ _ (ternary_to _ _ _ _ variable_to number_to number_to refl) number_to refl;
+}

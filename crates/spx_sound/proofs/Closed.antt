@@ -1,0 +1,179 @@
+-- Terms of programs read no variable of a quantifier.
+use Rattle.std.proofs.Common.{◌≡◌, ℤ, pos, Bool, true, false, ◌||◌, if◌then◌else◌, Option, Some, None, Ok, Err, refl, sym, ap, ◌∙◌, subst}
+use Rattle.spx_tree.specs.declared.expression.MemberOp.{MemberOp}
+use Rattle.spx_tree.specs.declared.expression.MemberOp.TheVariants as member_op
+use Rattle.spx_tree.specs.declared.expression.PrefixOp.{PrefixOp}
+use Rattle.spx_tree.specs.declared.expression.PrefixOp.TheVariants as prefix
+use Rattle.spx_core.specs.declared.entity.VarId.{VarId}
+use Rattle.spx_core.specs.declared.expression.CoreExpr.{CoreExpr}
+use Rattle.spx_core.specs.declared.expression.CoreExpr.TheVariants.{Name as Named, Attribute, Applied, Prefix, Infix, InType, InRange}
+use Rattle.spx_core.specs.declared.function.Mapping.{Mapping}
+use Rattle.spx_core.specs.declared.function.Shift.{Shift}
+use Rattle.spx_core.specs.declared.function.Shift.TheVariants as shift
+use Rattle.spx_core.specs.declared.program.Program.{Program}
+use Rattle.spx_core.specs.declared.statement.CoreCount.{CoreCount}
+use Rattle.spx_core.specs.declared.statement.CoreRange.{CoreRange}
+use Rattle.spx_core.specs.declared.subprogram.Sub.{Sub}
+use Rattle.spx_core.specs.Judged.{Judged, application}
+use Rattle.spx_core.specs.Uses.{variable_of}
+use Rattle.spx_core.proofs.Callers.Expressions.{Cases, induct}
+use Rattle.spx_term.specs.declared.term.Name.{Name}
+use Rattle.spx_term.specs.declared.term.Term.{Term}
+use Rattle.spx_term.specs.declared.term.Term.TheVariants as term
+use Rattle.spx_term.specs.declared.term.TermOp.{TermOp}
+use Rattle.spx_term.specs.declared.term.TermOp.TheVariants as operator
+use Rattle.spx_term.specs.declared.term.TermPrefix.{TermPrefix}
+use Rattle.spx_term.specs.declared.term.TermPrefix.TheVariants.{Minus, Abs, Not}
+use Rattle.spx_term.specs.declared.value.Literal.{Literal}
+use Rattle.spx_term.specs.declared.value.Literal.TheVariants as literals
+use Rattle.spx_term.specs.declared.value.Value.{Value}
+use Rattle.spx_term.specs.Folding.{static_term, term_of as literal_term}
+use Rattle.spx_term.specs.Substitution.{is_free, reads, reads_step, IsClosed}
+use Rattle.spx_term.specs.Values.{literal_in}
+use Rattle.spx_term.proofs.Equality.{same_name-Decides}
+use Rattle.spx_term.proofs.Terms.{fold-Number, fold-Truth, fold-Variable, fold-Prefix, fold-Infix}
+use Rattle.spx_meaning.specs.Evaluation.{term_op}
+use Rattle.spx_meaning.specs.Literals.{literal}
+use Rattle.spx_meaning.specs.Stores.{type_of}
+use Rattle.spx_formula.specs.Terms.{first_name, last_name, first_term, last_term, member_term, between, named, now, now_term, literal_or, moved_term, signed_term, term_of, term_with, term_with-Number, term_with-Parenthesized, term_with-Implicit, term_with-Prefix, term_with-Infix, term_with-InType, term_with-InRange, term_with-Name, term_with-Entry, term_with-Attribute, mapped_term, term_with-Applied}
+use Rattle.spx_paths.specs.Walks.{bound_term, is_fixed, low_term, high_term, next_term, start_term}
+
+-- a name of the program may take the value of the term
+abbrev pub MayTake : Name → Term → Type 0
+MayTake x t = (is_free x.symbol ≡ true) × IsClosed t
+
+-- ---- terms
+
+read_so : {f g : Name → Bool} (y : Name) → f ≡ g → f y ≡ true → g y ≡ true
+read_so y is h = sym (ap (λ (read : Name → Bool). read y) is) ∙ h
+
+pub number_closed : (n : ℤ) → IsClosed (term.Number n)
+unfolding reads
+number_closed n y h = absurd (let e : false ≡ true = read_so y (fold-Number reads_step n) h in cc)
+
+truth_closed : (b : Bool) → IsClosed (term.Truth b)
+unfolding reads
+truth_closed b y h = absurd (let e : false ≡ true = read_so y (fold-Truth reads_step b) h in cc)
+
+pub variable_closed : (x : Name) → is_free x.symbol ≡ true → IsClosed (term.Variable x)
+unfolding reads
+variable_closed x free y h = ap (λ (name : Name). is_free name.symbol) (sym ((same_name-Decides x y).0 (read_so y (fold-Variable reads_step x) h))) ∙ free
+
+prefix_closed : (o : TermPrefix) (a : Term) → IsClosed a → IsClosed (term.Prefix o a)
+unfolding reads
+prefix_closed o a closed y h = closed y (read_so y (fold-Prefix reads_step o a) h)
+
+infix_closed : (o : TermOp) (a b : Term) → IsClosed a → IsClosed b → IsClosed (term.Infix o a b)
+unfolding reads
+infix_closed o a b first second y h = by_part (reads a y) (reads b y) refl refl (read_so y (fold-Infix reads_step o a b) h)
+  where
+    by_part : (p q : Bool) → reads a y ≡ p → reads b y ≡ q → (p || q) ≡ true → is_free y.symbol ≡ true
+    by_part true q here there h = first y here
+    by_part false true here there h = second y there
+    by_part false false here there h = absurd (cc)
+
+literal_closed : (l : Literal) → IsClosed (literal_term l)
+literal_closed (literals.Number n) = number_closed n
+literal_closed (literals.Truth b) = truth_closed b
+
+pub static_closed : (x : Value) → IsClosed (static_term x)
+static_closed x = literal_closed (literal_in x)
+
+either_closed : (b : Bool) (t u : Term) → IsClosed t → IsClosed u → IsClosed (if b then t else u)
+either_closed true t u first second = first
+either_closed false t u first second = second
+
+-- ---- expressions
+
+literal_or_closed : (o : Option Value) (t : Term) → IsClosed t → IsClosed (literal_or o t)
+literal_or_closed (Some x) t closed = static_closed x
+literal_or_closed None t closed = closed
+
+named_closed : (stands : VarId → Term) → ((x : VarId) → IsClosed (stands x)) → (o : Option VarId) → IsClosed (named stands o)
+named_closed stands closed (Some x) = closed x
+named_closed stands closed None = number_closed (pos 0)
+
+signed_closed : (o : PrefixOp) (t : Term) → IsClosed t → IsClosed (signed_term o t)
+signed_closed prefix.Plus t closed = closed
+signed_closed prefix.Minus t closed = prefix_closed Minus t closed
+signed_closed prefix.Abs t closed = prefix_closed Abs t closed
+signed_closed prefix.Not t closed = prefix_closed Not t closed
+
+moved_closed : (s : Shift) (t : Term) → IsClosed t → IsClosed (moved_term s t)
+moved_closed shift.Same t closed = closed
+moved_closed shift.Next t closed = infix_closed operator.Add t (term.Number (pos 1)) closed (number_closed (pos 1))
+moved_closed shift.Previous t closed = infix_closed operator.Subtract t (term.Number (pos 1)) closed (number_closed (pos 1))
+
+mapped_closed : (j : Judged Mapping) (t : Term) → IsClosed t → IsClosed (mapped_term j t)
+mapped_closed (Ok mapping) t closed = moved_closed mapping.shift t closed
+mapped_closed (Err breach) t closed = closed
+
+between_closed : (t low high : Term) → IsClosed t → IsClosed low → IsClosed high → IsClosed (between t low high)
+between_closed t low high closed first last =
+    infix_closed operator.And (term.Infix operator.GreaterOrEqual t low) (term.Infix operator.LessOrEqual t high) (infix_closed operator.GreaterOrEqual t low closed first) (infix_closed operator.LessOrEqual t high closed last)
+
+member_closed : (o : MemberOp) (t low high : Term) → IsClosed t → IsClosed low → IsClosed high → IsClosed (member_term o t low high)
+member_closed member_op.In t low high closed first last = between_closed t low high closed first last
+member_closed (member_op.NotIn place) t low high closed first last = prefix_closed Not (between t low high) (between_closed t low high closed first last)
+
+-- where these terms read none, no term of an expression does
+module _ (present entered : VarId → Term) (presents : (x : VarId) → IsClosed (present x)) (enters : (x : VarId) → IsClosed (entered x)) where
+  abbrev the_term : CoreExpr → Term
+  the_term e = term_with present entered e
+
+  abbrev HasClosedTerm : CoreExpr → Type 0
+  HasClosedTerm e = IsClosed (the_term e)
+
+  closed_or : (e : CoreExpr) (t : Term) → the_term e ≡ literal_or (literal e) t → IsClosed t → HasClosedTerm e
+  closed_or e t is closed = subst IsClosed (sym is) (literal_or_closed (literal e) t closed)
+
+  closed_cases : Cases HasClosedTerm
+  closed_cases = record {
+    number = λ n place. subst IsClosed (sym (term_with-Number present entered n place)) (number_closed n);
+    name = λ name. closed_or (Named name) (named present (variable_of name.entity)) (term_with-Name present entered name) (named_closed present presents (variable_of name.entity));
+    entry = λ name allowed. subst IsClosed (sym (term_with-Entry present entered name allowed)) (named_closed entered enters (variable_of name.entity));
+    attribute = λ prefix designator. closed_or (Attribute prefix designator) (term.Number (pos 0)) (term_with-Attribute present entered prefix designator) (number_closed (pos 0));
+    applied = λ function place a h.
+        closed_or (Applied function place a) (mapped_term (application function) (the_term a)) (term_with-Applied present entered function place a) (mapped_closed (application function) (the_term a) h);
+    parenthesized = λ place a h. subst IsClosed (sym (term_with-Parenthesized present entered place a)) h;
+    implicit = λ base place a h. subst IsClosed (sym (term_with-Implicit present entered base place a)) h;
+    prefix = λ o place a h. closed_or (Prefix o place a) (signed_term o (the_term a)) (term_with-Prefix present entered o place a) (signed_closed o (the_term a) h);
+    «infix» = λ o place a b h k.
+        closed_or (Infix o place a b) (term.Infix (term_op o) (the_term a) (the_term b)) (term_with-Infix present entered o place a b) (infix_closed (term_op o) (the_term a) (the_term b) h k);
+    in_type = λ o place a name h.
+        closed_or (InType o place a name) (member_term o (the_term a) (first_term name) (last_term name)) (term_with-InType present entered o place a name)
+        (member_closed o (the_term a) (first_term name) (last_term name) h (number_closed _) (number_closed _));
+    in_range = λ o place a low high h k m.
+        closed_or (InRange o place a low high) (member_term o (the_term a) (the_term low) (the_term high)) (term_with-InRange present entered o place a low high)
+        (member_closed o (the_term a) (the_term low) (the_term high) h k m);
+  }
+
+  term_closed : (e : CoreExpr) → HasClosedTerm e
+  term_closed = induct HasClosedTerm closed_cases
+
+now_closed : (p : Program) (x : VarId) → IsClosed (now_term p x)
+now_closed p x = variable_closed (now p x) refl
+
+-- the term of an expression in code
+pub code_closed : (p : Program) (e : CoreExpr) → IsClosed (term_of p (now_term p) e)
+code_closed p e = term_closed (now_term p) (now_term p) (now_closed p) (now_closed p) e
+
+-- ---- loops over a parameter
+
+module _ (p : Program) (sub : Sub) (c : CoreCount) where
+  bound_closed : (name : Name) (e : CoreExpr) → is_free name.symbol ≡ true → IsClosed (bound_term p sub name e)
+  bound_closed name e free = either_closed (is_fixed sub e) (term_of p (now_term p) e) (term.Variable name) (code_closed p e) (variable_closed name free)
+
+  low_closed : (bounds : Option CoreRange) → IsClosed (low_term p sub (record c { bounds = bounds }))
+  low_closed None = number_closed (type_of p c.parameter).first
+  low_closed (Some range) = bound_closed (first_name c.parameter) range.low refl
+
+  high_closed : (bounds : Option CoreRange) → IsClosed (high_term p sub (record c { bounds = bounds }))
+  high_closed None = number_closed (type_of p c.parameter).last
+  high_closed (Some range) = bound_closed (last_name c.parameter) range.high refl
+
+  pub start_closed : IsClosed (start_term p sub c)
+  start_closed = either_closed c.is_reverse (high_term p sub c) (low_term p sub c) (high_closed c.bounds) (low_closed c.bounds)
+
+  pub next_closed : IsClosed (next_term p c)
+  next_closed = infix_closed (if c.is_reverse then operator.Subtract else operator.Add) (now_term p c.parameter) (term.Number (pos 1)) (now_closed p c.parameter) (number_closed (pos 1))

@@ -1,0 +1,137 @@
+// What is read of a composite value.
+ghost use Rattle.std.specs.Prelude.{◌≡◌, IfOk};
+ghost use Rattle.spx_term.specs.Values as values;
+ghost use Rattle.spx_term.specs.Folding as spec;
+
+use crate::{
+    ArrayType, BinaryOp, Component, FieldName, Literal, Quantifier, Term, TernaryOp, UnaryOp,
+};
+use std::alloc::{AllocError, Global};
+
+/// What is read of a composite value.
+#[derive(Clone, Copy, PartialEq, Eq)]
+pub enum Reading {
+    /// The element at this index, which is in range.
+    Element(ArrayType, i128),
+    /// A field of this type.
+    Field(FieldName, Component),
+}
+
+/// Where an operation keeps what is read of its value.
+#[derive(Clone, Copy, PartialEq, Eq)]
+pub enum Found {
+    /// It is the last part.
+    Last,
+    /// It is what is read of the composite value before.
+    Before,
+    /// That is not seen.
+    Unseen,
+}
+
+/// Whether a number lies between two others.
+pub fn lies_between(low: i128, high: i128, n: i128) -> bool
+    ensures { result ≡ values.lies_between low high n }
+{
+    low <= n && n <= high
+}
+
+/// Where an operation on one term keeps what is read.
+#[tactic(auto, unfolding(crate::specs::Folding::found_in_unary))]
+pub fn found_in_unary(reading: Reading, op: UnaryOp) -> Found
+    ensures { result ≡ spec.found_in_unary reading op }
+{
+    match (reading, op) {
+        (Reading::Element(_, _), UnaryOp::Others(_)) => Found::Last,
+        _ => Found::Unseen,
+    }
+}
+
+/// Where an operation on a composite value and another term keeps what is read.
+#[tactic(auto, unfolding(crate::specs::Folding::found_in_binary))]
+pub fn found_in_binary(reading: Reading, op: BinaryOp) -> Found
+    ensures { result ≡ spec.found_in_binary reading op }
+{
+    match (reading, op) {
+        (Reading::Element(_, index), BinaryOp::Elements(_, low, high)) => {
+            if lies_between(low, high, index) {
+                Found::Last
+            } else {
+                Found::Before
+            }
+        }
+        (Reading::Field(field, _), BinaryOp::Update(other)) => at_field(field, other),
+        (Reading::Field(field, _), BinaryOp::Field(other)) => at_field(field, other),
+        _ => Found::Unseen,
+    }
+}
+
+fn at_field(field: FieldName, other: FieldName) -> Found
+    ensures { result ≡ spec.found_at_field field other }
+{
+    if other.place == field.place {
+        Found::Last
+    } else {
+        Found::Before
+    }
+}
+
+/// Where an operation on three terms keeps what is read. The second term is the literal `index`, or none.
+#[tactic(auto, unfolding(crate::specs::Folding::found_in_ternary))]
+pub fn found_in_ternary(reading: Reading, op: TernaryOp, index: Option<Literal>) -> Found
+    ensures { result ≡ spec.found_in_ternary reading op index }
+{
+    match (reading, op, index) {
+        (Reading::Element(array, wanted), TernaryOp::Update(_), Some(Literal::Number(index))) => {
+            at_index(array, wanted, index)
+        }
+        _ => Found::Unseen,
+    }
+}
+
+fn at_index(array: ArrayType, wanted: i128, index: i128) -> Found
+    ensures { result ≡ spec.found_at_index array wanted index }
+{
+    if !lies_between(array.first, array.last, index) {
+        return Found::Unseen;
+    }
+    if index == wanted {
+        Found::Last
+    } else {
+        Found::Before
+    }
+}
+
+/// The term that reads.
+pub fn read(alloc: Global, reading: Reading, term: &Term) -> Result<Term, AllocError>
+    ensures { IfOk result (λ r. r ≡ spec.read reading term.now) }
+{
+    let value = term.copy(alloc)?;
+    match reading {
+        Reading::Element(array, index) => {
+            Term::binary(alloc, BinaryOp::Element(array), value, Term::Number(index))
+        }
+        Reading::Field(field, component) => {
+            Term::unary(alloc, UnaryOp::Field(field, component), value)
+        }
+    }
+}
+
+/// What a quantifier over no number is.
+pub fn of_none(quantifier: Quantifier) -> bool
+    ensures { result ≡ spec.of_none quantifier }
+{
+    match quantifier {
+        Quantifier::All => true,
+        Quantifier::Some => false,
+    }
+}
+
+/// Whether there is no number between two literals.
+pub fn is_empty(low: Option<Literal>, high: Option<Literal>) -> bool
+    ensures { result ≡ spec.is_empty low high }
+{
+    match (low, high) {
+        (Some(Literal::Number(low)), Some(Literal::Number(high))) => high < low,
+        _ => false,
+    }
+}
