@@ -8,9 +8,9 @@ ghost use Rattle.spx_arena.specs.Sharing.{tree_at, tree_in, Adds, Below, Closed,
 
 use indexmap::IndexSet;
 use spx_term::{
-    BinaryOp, Literal, MOST_LEVELS, MOST_NODES, Name, Scalar, Term, TermOp, TermPrefix, TernaryOp,
-    UnaryOp, boxed_binary, boxed_blank, boxed_infix, boxed_number, boxed_prefix, boxed_ternary,
-    boxed_truth, boxed_unary, boxed_variable,
+    BinaryOp, Literal, MOST_LEVELS, MOST_LISTED_LEVELS, MOST_NODES, Name, Scalar, Term, TermOp,
+    TermPrefix, TernaryOp, UnaryOp, boxed_binary, boxed_blank, boxed_infix, boxed_number,
+    boxed_prefix, boxed_ternary, boxed_truth, boxed_unary, boxed_variable,
 };
 use sqlite_items::Boxed;
 use std::alloc::{AllocError, Global};
@@ -35,10 +35,12 @@ pub enum Node {
     Ternary(TernaryOp, TermId, TermId, TermId),
 }
 
-/// A node, and how many nodes its tree has, counted up to `MOST_NODES + 1`.
-#[derive(Clone, Copy, PartialEq, Eq, Hash)]
+/// A node, and how many nodes its tree has, counted up to `MOST_NODES + 1`. The size follows from the node, so it is not hashed.
+#[derive(Clone, Copy, PartialEq, Eq)]
+#[derive_where(Hash)]
 struct Entry {
     node: Node,
+    #[derive_where(skip(Hash))]
     size: u32,
 }
 
@@ -219,34 +221,47 @@ impl Terms {
         if room == 0 {
             return Err(AllocError);
         }
+        let node = self.insert_parts(tree, room - 1)?;
+        self.make(node)
+    }
+
+    /// The node of a tree whose parts come in. It is in no caller, so that a level of the tree takes little of the stack.
+    #[cycle(insert)]
+    #[inline(never)]
+    fn insert_parts(&mut self, tree: &Term, room: u32) -> Result<Node, AllocError>
+        ensures grown { Grows self.old self.new }
+        ensures below { IfOk result (λ node. Below (length self.new) node) }
+        ensures is_tree { IfOk result (λ node. tree_in self.new node ≡ tree.now) }
+        ensures extended { Extends self.old self.new }
+    {
         match tree {
-            Term::Number(value) => self.make(Node::Number(*value)),
-            Term::Truth(value) => self.make(Node::Truth(*value)),
-            Term::Variable(name) => self.make(Node::Variable(*name)),
+            Term::Number(value) => Ok(Node::Number(*value)),
+            Term::Truth(value) => Ok(Node::Truth(*value)),
+            Term::Variable(name) => Ok(Node::Variable(*name)),
+            Term::Blank(id) => Ok(Node::Blank(*id)),
             Term::Prefix(op, operand) => {
-                let operand = self.insert(operand.get(), room - 1)?;
-                self.make(Node::Prefix(*op, operand))
+                let operand = self.insert(operand.get(), room)?;
+                Ok(Node::Prefix(*op, operand))
             }
             Term::Infix(op, left, right) => {
-                let left = self.insert(left.get(), room - 1)?;
-                let right = self.insert(right.get(), room - 1)?;
-                self.make(Node::Infix(*op, left, right))
+                let left = self.insert(left.get(), room)?;
+                let right = self.insert(right.get(), room)?;
+                Ok(Node::Infix(*op, left, right))
             }
-            Term::Blank(id) => self.make(Node::Blank(*id)),
             Term::Unary(op, operand) => {
-                let operand = self.insert(operand.get(), room - 1)?;
-                self.make(Node::Unary(*op.get(), operand))
+                let operand = self.insert(operand.get(), room)?;
+                Ok(Node::Unary(*op.get(), operand))
             }
             Term::Binary(op, left, right) => {
-                let left = self.insert(left.get(), room - 1)?;
-                let right = self.insert(right.get(), room - 1)?;
-                self.make(Node::Binary(*op.get(), left, right))
+                let left = self.insert(left.get(), room)?;
+                let right = self.insert(right.get(), room)?;
+                Ok(Node::Binary(*op.get(), left, right))
             }
             Term::Ternary(op, first, second, third) => {
-                let first = self.insert(first.get(), room - 1)?;
-                let second = self.insert(second.get(), room - 1)?;
-                let third = self.insert(third.get(), room - 1)?;
-                self.make(Node::Ternary(*op.get(), first, second, third))
+                let first = self.insert(first.get(), room)?;
+                let second = self.insert(second.get(), room)?;
+                let third = self.insert(third.get(), room)?;
+                Ok(Node::Ternary(*op.get(), first, second, third))
             }
         }
     }
@@ -282,12 +297,21 @@ impl Terms {
         let _count = self.entries.len();
     }
 
-    /// The term as a tree. One of more than `MOST_LEVELS` levels is refused.
+    /// The form of a term in its place, so that no copy of it takes room on the stack.
+    fn form(&self, id: TermId) -> &Node
+        requires { id.0 < length self.now }
+        ensures tree { tree_at self.now id ≡ tree_in self.now result.now }
+        ensures below { Below id.0 result.now }
+    {
+        &self.entries.as_slice()[id.0].node
+    }
+
+    /// The term as a tree. One of more than `MOST_LISTED_LEVELS` levels is refused.
     pub fn tree_of(&self, alloc: Global, id: TermId) -> Result<Term, AllocError>
         requires { id.0 < length self.now }
         ensures { IfOk result (λ tree. tree ≡ tree_at self.now id) }
     {
-        let tree = self.boxed_tree(alloc, id, MOST_LEVELS)?;
+        let tree = self.boxed_tree(alloc, id, MOST_LISTED_LEVELS)?;
         Ok(tree.into_inner())
     }
 
@@ -300,34 +324,34 @@ impl Terms {
         if room == 0 {
             return Err(AllocError);
         }
-        match self.node(id) {
-            Node::Number(value) => boxed_number(alloc, value),
-            Node::Truth(value) => boxed_truth(alloc, value),
-            Node::Variable(name) => boxed_variable(alloc, name),
-            Node::Blank(id) => boxed_blank(alloc, id),
+        match self.form(id) {
+            Node::Number(value) => boxed_number(alloc, *value),
+            Node::Truth(value) => boxed_truth(alloc, *value),
+            Node::Variable(name) => boxed_variable(alloc, *name),
+            Node::Blank(id) => boxed_blank(alloc, *id),
             Node::Prefix(op, operand) => {
-                let operand = self.boxed_tree(alloc, operand, room - 1)?;
-                boxed_prefix(alloc, op, operand)
+                let operand = self.boxed_tree(alloc, *operand, room - 1)?;
+                boxed_prefix(alloc, *op, operand)
             }
             Node::Infix(op, left, right) => {
-                let left = self.boxed_tree(alloc, left, room - 1)?;
-                let right = self.boxed_tree(alloc, right, room - 1)?;
-                boxed_infix(alloc, op, left, right)
+                let left = self.boxed_tree(alloc, *left, room - 1)?;
+                let right = self.boxed_tree(alloc, *right, room - 1)?;
+                boxed_infix(alloc, *op, left, right)
             }
             Node::Unary(op, operand) => {
-                let operand = self.boxed_tree(alloc, operand, room - 1)?;
-                boxed_unary(alloc, op, operand)
+                let operand = self.boxed_tree(alloc, *operand, room - 1)?;
+                boxed_unary(alloc, *op, operand)
             }
             Node::Binary(op, left, right) => {
-                let left = self.boxed_tree(alloc, left, room - 1)?;
-                let right = self.boxed_tree(alloc, right, room - 1)?;
-                boxed_binary(alloc, op, left, right)
+                let left = self.boxed_tree(alloc, *left, room - 1)?;
+                let right = self.boxed_tree(alloc, *right, room - 1)?;
+                boxed_binary(alloc, *op, left, right)
             }
             Node::Ternary(op, first, second, third) => {
-                let first = self.boxed_tree(alloc, first, room - 1)?;
-                let second = self.boxed_tree(alloc, second, room - 1)?;
-                let third = self.boxed_tree(alloc, third, room - 1)?;
-                boxed_ternary(alloc, op, first, second, third)
+                let first = self.boxed_tree(alloc, *first, room - 1)?;
+                let second = self.boxed_tree(alloc, *second, room - 1)?;
+                let third = self.boxed_tree(alloc, *third, room - 1)?;
+                boxed_ternary(alloc, *op, first, second, third)
             }
         }
     }

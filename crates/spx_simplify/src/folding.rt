@@ -14,7 +14,7 @@ use spx_arena::{Node, TermId, Terms};
 use spx_term::{
     ArrayType, BinaryOp, Component, FieldName, Found, Literal, Reading, Simplification, TermForm,
     TermOp, TermPrefix, TernaryOp, UnaryOp, binary_form, compute_prefix, found_in_binary,
-    found_in_ternary, found_in_unary, is_empty, lies_between, of_none, opposite, simpler_form,
+    found_in_ternary, found_in_unary, is_empty, of_none, opposite, simpler_form,
     unary_form,
 };
 use sqlite_items::Items;
@@ -301,7 +301,7 @@ fn element(
 {
     match literal_at(terms, right) {
         Some(Literal::Number(index)) => {
-            if lies_between(array.first, array.last, index) {
+            if array.has_index(index) {
                 return element_of(terms, array, left, right, index);
             }
             terms.make(Node::Binary(BinaryOp::Element(array), left, right))

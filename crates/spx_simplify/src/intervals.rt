@@ -50,8 +50,8 @@ fn range_of(component: Component) -> Interval
 {
     match component {
         Component::Integer(low, high) => Interval {
-            low: Some(low),
-            high: Some(high),
+            low: Some(i128::from(low)),
+            high: Some(i128::from(high)),
         },
         Component::Boolean => UNBOUNDED,
         Component::Composite(_) => UNBOUNDED,

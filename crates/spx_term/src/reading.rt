@@ -29,10 +29,19 @@ pub enum Found {
 }
 
 /// Whether a number lies between two others.
-pub fn lies_between(low: i128, high: i128, n: i128) -> bool
+fn lies_between(low: i128, high: i128, n: i128) -> bool
     ensures { result ≡ values.lies_between low high n }
 {
     low <= n && n <= high
+}
+
+impl ArrayType {
+    /// Whether the arrays have an element at this index.
+    pub fn has_index(self, index: i128) -> bool
+        ensures { result ≡ values.lies_between self.first self.last index }
+    {
+        lies_between(i128::from(self.first), i128::from(self.last), index)
+    }
 }
 
 /// Where an operation on one term keeps what is read.
@@ -53,7 +62,7 @@ pub fn found_in_binary(reading: Reading, op: BinaryOp) -> Found
 {
     match (reading, op) {
         (Reading::Element(_, index), BinaryOp::Elements(_, low, high)) => {
-            if lies_between(low, high, index) {
+            if lies_between(i128::from(low), i128::from(high), index) {
                 Found::Last
             } else {
                 Found::Before
@@ -91,7 +100,7 @@ pub fn found_in_ternary(reading: Reading, op: TernaryOp, index: Option<Literal>)
 fn at_index(array: ArrayType, wanted: i128, index: i128) -> Found
     ensures { result ≡ spec.found_at_index array wanted index }
 {
-    if !lies_between(array.first, array.last, index) {
+    if !array.has_index(index) {
         return Found::Unseen;
     }
     if index == wanted {

@@ -12,7 +12,7 @@ use crate::{
 use sqlite_items::Boxed;
 use std::alloc::{AllocError, Global};
 
-/// The depth so many levels deeper. One past the greatest number counts as want of memory, which holds no term so deep.
+/// The depth so many levels deeper. One past the greatest number is refused as where memory runs out, since no memory holds a term so deep.
 fn deeper_by(depth: usize, levels: usize) -> Result<usize, AllocError>
     ensures { IfOk result (λ r. r ≡ depth + levels) }
 {
