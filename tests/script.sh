@@ -922,7 +922,16 @@ simplified() {
     ends 0
 }
 
-# What no row of the table has: the greatest file, the most tokens, a file that is not there, and an output that takes nothing.
+# A procedure that negates a variable so many times. Its postcondition is true where the number is even.
+negations() {
+    awk -v count="$1" 'BEGIN {
+        print "procedure Flip (B : in out Boolean)\n--# derives B from B;\n--# post B = B~;\nis\nbegin"
+        for (k = 0; k < count; k++) print "   B := not B;"
+        print "end Flip;"
+    }'
+}
+
+# What no row of the table has: the deepest term, the greatest file, the most tokens, a file that is not there, and an output that takes nothing.
 limits() {
     what='a file of the greatest size, and one byte more'
     head -c 4194304 /dev/zero | tr '\0' ' ' >"$room/most.adb"
@@ -943,6 +952,23 @@ limits() {
     run "$program" check "$room/most.adb"
     ends 6
     prints 'limit: tokens, at most 1000000\n'
+
+    # Each assignment is a level of the term in the one condition, and a variable and `=` are two more.
+    what='a term of the most levels that are printed, and one more'
+    negations 31998 >"$room/deep.adb"
+    run "$program" conditions "$room/deep.adb"
+    ends 0
+    awk -v count=31998 -v file="$room/deep.adb" 'BEGIN {
+        for (k = 0; k < count; k++) { open = open "(not "; shut = shut ")" }
+        printf "Flip.1 post %s:3:5\nG1 %sB~%s = B~\n", file, open, shut
+    }' >"$room/wanted"
+    if cmp -s "$room/wanted" "$room/out"; then pass; else fail "printed: $(head -c 300 "$room/out")"; fi
+    negations 31999 >"$room/deep.adb"
+    run "$program" conditions "$room/deep.adb"
+    ends 5
+    prints ''
+    run "$program" check "$room/deep.adb"
+    ends 1
 
     what='a file that is not there'
     run "$program" check "$room/none.adb"

@@ -17,7 +17,7 @@ use Rattle.spx_term.specs.declared.term.Term.TheVariants.{Number, Truth, Variabl
 use Rattle.spx_term.specs.declared.value.Shape.{Shape}
 use Rattle.spx_term.specs.declared.value.Shape.TheVariants as shape
 use Rattle.spx_term.specs.Equality.{same_shape, same_sort}
-use Rattle.spx_term.specs.Sorts.{asked, sort_of_layer, sort_of_shape, element_shape_in, element_shape, field_shape_in, field_shape, takes, element_takes, field_takes, is_component, is_array, sort_of_op, sort_of_unary, sort_of_binary, sort_of_ternary, one, both, three, sort_step, sort_of}
+use Rattle.spx_term.specs.Sorts.{asked, sort_of_layer, sort_of_shape, element_shape_in, element_shape, field_shape_in, field_shape, takes, element_takes, field_takes, is_component, is_array, is_field, sort_of_op, sort_of_unary, sort_of_binary, sort_of_ternary, one, both, three, sort_step, sort_of}
 use Rattle.spx_term.proofs.Equality.{same_shape-Decides, same_sort-Decides}
 use Rattle.spx_term.proofs.Terms.{fold-Number, fold-Truth, fold-Variable, fold-Blank, fold-Infix, fold-Unary, fold-Binary, fold-Ternary}
 use Rattle.spx_examples.proofs.CompositeValues.{zero_in, zeros_in}
@@ -88,7 +88,7 @@ same_array = ap (λ s. same_sort s (Composite 0)) numbers_sort ∙ (same_sort-De
 digit_said : is_component types (Some digit_shape) digit ≡ true
 digit_said = both_true (itself digit_shape) (both_true same_integer zero_in)
 
-array_said : is_array types numbers ≡ true
+pub array_said : is_array types numbers ≡ true
 array_said = both_true (itself numbers_shape) (ap (λ o. is_component types o digit) element_look ∙ digit_said)
 
 digit_taken : takes types (Some digit_shape) Integer ≡ true
@@ -145,10 +145,12 @@ unfolding sort_of_binary
 pair_has = binary_has _ _ _ (binary_has _ _ _ (blank_has 1) (number_has (pos 2)) (ask (Composite 1) field_g_taken)) (number_has (pos 1)) (ask (Composite 1) field_f_taken)
 
 -- F and G of the type Q
+pub part_said : is_field types array_f (component.Composite 0) ≡ true
+part_said = ap (λ o. is_component types o (component.Composite 0)) (field_look 2 (numbers_shape ∷ digit_shape ∷ []) 0) ∙ both_true (itself numbers_shape) (both_true same_array zeros_in)
+
 pub part_has : (n : Term) → Has n (Composite 2) → Has (array_of n) (Composite 0)
 unfolding sort_of_unary
-part_has n p =
-    unary_has _ n p (ask (Composite 0) (ap (λ o. is_component types o (component.Composite 0)) (field_look 2 (numbers_shape ∷ digit_shape ∷ []) 0) ∙ both_true (itself numbers_shape) (both_true same_array zeros_in)))
+part_has n p = unary_has _ n p (ask (Composite 0) part_said)
 
 pub with_part_has : (n e : Term) → Has n (Composite 2) → Has e (Composite 0) → Has (with_in n array_f e) (Composite 2)
 unfolding sort_of_binary

@@ -74,5 +74,7 @@ mod CompositeFolding
 mod CompositeMeaning
 mod CompositeValues
 mod CompositeSorts
+mod PartValues
+mod LinearMeaning
 mod CompositePlain
 mod CompositeValid

@@ -30,3 +30,5 @@ pub mod DoublingText
 pub mod BadPrograms
 pub mod Weakenings
 pub mod CompositeExamples
+pub mod PartExamples
+pub mod LinearExamples

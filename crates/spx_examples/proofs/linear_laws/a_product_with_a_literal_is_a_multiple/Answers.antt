@@ -1,0 +1,20 @@
+use Rattle.std.proofs.Common.{refl}
+use denote.Hole.Carrier.{out, hidden}
+use Rattle.spx_num.specs.Widths.{fits}
+use Rattle.spx_term.specs.declared.term.Term.{out-Term}
+use Rattle.spx_term.specs.declared.term.Term.TheBlock.{hidden-the_row-Term-0}
+use Rattle.spx_term.specs.Equality.{same_term, same_by}
+use Rattle.spx_linear.specs.Forms.{with_part, joined, scaled_part, scaled}
+use Rattle.spx_linear.specs.Linear.{form_of, linear_form}
+use Rattle.spx_examples.proofs.linear_laws.a_product_with_a_literal_is_a_multiple.Goals as goal
+
+pub returns : goal.returns
+unfolding linear_form form_of joined scaled with_part scaled_part fits same_term same_by out-Term out hidden-the_row-Term-0 hidden
+returns c = record {
+  left = refl;
+  right = refl;
+  literals = refl;
+  of_a_sum = refl;
+  by_zero = refl;
+  negation = refl;
+}

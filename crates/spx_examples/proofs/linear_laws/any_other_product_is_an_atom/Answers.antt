@@ -1,0 +1,18 @@
+use Rattle.std.proofs.Common.{refl}
+use denote.Hole.Carrier.{out, fold, shown, hidden}
+use denote.Hole.Rolled.{depth}
+use Rattle.spx_num.specs.Widths.{fits}
+use Rattle.spx_term.specs.declared.term.Term.{out-Term}
+use Rattle.spx_term.specs.declared.term.Term.TheBlock.{the_depth, shown-the_row-Term-0, hidden-the_row-Term-0}
+use Rattle.spx_term.specs.Equality.{same_term, same_by}
+use Rattle.spx_linear.specs.Forms.{with_part, joined, scaled_part, scaled}
+use Rattle.spx_linear.specs.Linear.{form_of, linear_form}
+use Rattle.spx_examples.proofs.linear_laws.any_other_product_is_an_atom.Goals as goal
+
+pub returns : goal.returns
+unfolding linear_form form_of joined scaled with_part scaled_part fits same_term same_by out-Term out the_depth depth fold shown-the_row-Term-0 shown hidden-the_row-Term-0 hidden
+returns c = record {
+  same = refl;
+  exchanged = refl;
+  sum_of_literals = refl;
+}
