@@ -1,9 +1,10 @@
-// Terms, sequents and facts, with ample memory.
+// Terms, sequents, facts and linear forms, with ample memory.
 ghost use Rattle.std.specs.Prelude.{◌≢◌, [], IfOk};
 
 use spx_arena::{FactLists, Node, Terms};
+use spx_linear::{Form, LinearFault, is_comparison, linear_form, refutes};
 use spx_simplify::closes;
-use spx_term::{CondKind, Condition, Name, Sequent, Sort, Symbol, Term, TermOp, fold, same};
+use spx_term::{CondKind, Condition, Name, Sequent, Sort, Symbol, Term, TermOp, fold, same, subst};
 use spx_text::{Place, Text};
 use sqlite_items::{Boxed, Items};
 use std::alloc::{AllocError, Global};
@@ -24,14 +25,16 @@ enum Wanted {
     Itself,
 }
 
+const X: Name = Name {
+    symbol: Symbol::Now(0),
+    sort: Sort::Integer,
+};
+
 /// X, or a literal.
 fn operand(literal: Option<i128>) -> Term {
     match literal {
         Some(value) => Term::Number(value),
-        None => Term::Variable(Name {
-            symbol: Symbol::Now(0),
-            sort: Sort::Integer,
-        }),
+        None => Term::Variable(X),
     }
 }
 
@@ -81,6 +84,39 @@ fn folds_an_operation(rt: HostRuntime) -> Result<(), Fail> {
         assert!(rt; folds_to(rt.alloc(), operation, wanted)?);
     }
     Ok(())
+}
+
+#[test]
+fn puts_a_number_in_the_place_of_a_name(rt: HostRuntime) -> Result<(), Fail> {
+    let alloc = rt.alloc();
+    let sum = operation(alloc, None, TermOp::Add, Some(2))?;
+    let wanted = operation(alloc, Some(5), TermOp::Add, Some(2))?;
+    let result = Boxed::new(alloc, subst(alloc, sum.get(), X, &Term::Number(5))?)?;
+    assert!(rt; same(result.get(), wanted.get()));
+    Ok(())
+}
+
+/// The form of `X op bound`.
+fn form(alloc: Global, op: TermOp, bound: i128) -> Result<Form, LinearFault> {
+    let comparison = operation(alloc, None, op, Some(bound))?;
+    if !is_comparison(comparison.get()) {
+        return Err(LinearFault::TooWide);
+    }
+    linear_form(alloc, comparison.get())
+}
+
+/// Whether `X >= low` and `X <= high` are refuted by their sum.
+fn refutes_range(alloc: Global, low: i128, high: i128) -> Result<bool, LinearFault> {
+    let mut forms = Items::new(alloc);
+    forms.push(form(alloc, TermOp::GreaterOrEqual, low)?)?;
+    forms.push(form(alloc, TermOp::LessOrEqual, high)?)?;
+    refutes(alloc, forms.as_slice(), [1, 1].as_slice())
+}
+
+#[test]
+fn refutes_by_a_certificate(rt: HostRuntime) {
+    assert_eq!(rt; refutes_range(rt.alloc(), 1, 0), Ok(true));
+    assert_eq!(rt; refutes_range(rt.alloc(), 0, 1), Ok(false));
 }
 
 /// Whether `(X sign operand) op bound` closes under hypotheses `X op value`.
