@@ -75,6 +75,7 @@ mod CompositeMeaning
 mod CompositeValues
 mod CompositeSorts
 mod PartValues
+mod PartTables
 mod LinearMeaning
 mod CompositePlain
 mod CompositeValid
