@@ -14,8 +14,7 @@ use spx_arena::{Node, TermId, Terms};
 use spx_term::{
     ArrayType, BinaryOp, Component, FieldName, Found, Literal, Reading, Simplification, TermForm,
     TermOp, TermPrefix, TernaryOp, UnaryOp, binary_form, compute_prefix, found_in_binary,
-    found_in_ternary, found_in_unary, is_empty, of_none, opposite, simpler_form,
-    unary_form,
+    found_in_ternary, found_in_unary, is_empty, of_none, opposite, simpler_form, unary_form,
 };
 use sqlite_items::Items;
 use std::alloc::{AllocError, Global};
