@@ -427,8 +427,8 @@ touch "$tree/crates/spx_cli/src/main.rt"
 run with_rt "$tree/spx" build
 ends 0
 says 'building the program'
-says 'the first time this takes about 35 minutes (processors: 4)'
-says 'the tests, .ci/run, take about 57 minutes'
+says 'the first time this takes about 36 minutes (processors: 4)'
+says 'the tests, .ci/run, take about 59 minutes'
 says 'built in'
 prints ''
 touch -t 202001010000 "$tree/crates/spx_cli/src/main.rt" "$tree/crates/spx_cli/src"
@@ -491,10 +491,10 @@ while read -r processors minutes; do
     ends 0
     says "the first time this takes about $minutes minutes"
 done <<'END'
-1 115
-2 62
-3 44
-8 35
+1 119
+2 64
+3 45
+8 36
 END
 
 # A second is a hundredth here, in which the script waits.
