@@ -7,7 +7,7 @@ use Rattle.spx_core.specs.declared.subprogram.Sub.{Sub}
 use Rattle.spx_core.specs.declared.rule.RuleName.TheVariants.{V1}
 use Rattle.spx_core.specs.Bodies.{bodies_of}
 use Rattle.spx_term.specs.declared.condition.CondKind.{CondKind}
-use Rattle.spx_term.specs.declared.condition.CondKind.TheVariants.{Division, Overflow, Range, Post, Assert, Check}
+use Rattle.spx_term.specs.declared.condition.CondKind.TheVariants.{Division, Overflow, Range, Index, Post, Assert, Check}
 use Rattle.spx_term.specs.declared.condition.Condition.{Condition}
 use Rattle.spx_term.specs.Goals.{goal_of}
 use Rattle.spx_term.specs.Plain.{closes}
@@ -32,6 +32,7 @@ abbrev pub kind_text : CondKind → List ℕ
 kind_text Division = codes "division"
 kind_text Overflow = codes "overflow"
 kind_text Range = codes "range"
+kind_text Index = codes "index"
 kind_text Post = codes "post"
 kind_text Assert = codes "assert"
 kind_text Check = codes "check"

@@ -29,6 +29,7 @@ pub(crate) fn kind_text(kind: CondKind) -> &'static [u8]
         CondKind::Division => b"division",
         CondKind::Overflow => b"overflow",
         CondKind::Range => b"range",
+        CondKind::Index => b"index",
         CondKind::Post => b"post",
         CondKind::Assert => b"assert",
         CondKind::Check => b"check",

@@ -1,4 +1,3 @@
-pub mod Looks
 pub mod Terms
 pub mod EntryNames
 pub mod Functions

@@ -83,6 +83,7 @@ abbrev pub bad_text : BadKind → List ℕ
 bad_text bad.Division = codes "division"
 bad_text bad.Overflow = codes "overflow"
 bad_text bad.Range = codes "range"
+bad_text bad.Index = codes "index"
 bad_text bad.Unset = codes "unset"
 bad_text bad.Pre = codes "pre"
 bad_text bad.Post = codes "post"

@@ -56,6 +56,7 @@ fn bad_text(kind: BadKind) -> &'static [u8]
         BadKind::Division => b"division",
         BadKind::Overflow => b"overflow",
         BadKind::Range => b"range",
+        BadKind::Index => b"index",
         BadKind::Unset => b"unset",
         BadKind::Pre => b"pre",
         BadKind::Post => b"post",
