@@ -16,16 +16,18 @@ use Rattle.spx_core.specs.declared.entity.Entity.{Entity}
 use Rattle.spx_core.specs.declared.entity.Entity.TheVariants as entity
 use Rattle.spx_core.specs.declared.expression.CoreExpr.{CoreExpr}
 use Rattle.spx_core.specs.declared.expression.CoreExpr.TheBlock.{hidden-the_row-CoreExpr-0}
-use Rattle.spx_core.specs.declared.expression.CoreExpr.TheVariants.{Number, Name, Entry, Attribute, Applied, Parenthesized, Implicit, Prefix, Infix, InType, InRange}
+use Rattle.spx_core.specs.declared.expression.CoreExpr.TheVariants.{Number, Name, Entry, Attribute, Applied, Parenthesized, Implicit, Prefix, Infix, InType, InRange, Element, Selected}
 use Rattle.spx_core.specs.declared.function.CoreFunction.{CoreFunction}
 use Rattle.spx_core.specs.declared.name.CoreName.{CoreName}
 use Rattle.spx_core.specs.declared.name.Reference.{Reference}
+use Rattle.spx_core.specs.declared.part.Indexing.{Indexing}
+use Rattle.spx_core.specs.declared.part.Selection.{Selection}
 use Rattle.spx_core.specs.declared.rule.ExprType.{ExprType}
 use Rattle.spx_core.specs.declared.rule.ExprType.TheVariants.{Universal, Of}
 use Rattle.spx_core.specs.declared.rule.Typing.{Typing}
 use Rattle.spx_core.specs.Judged.{Judged, judged}
 use Rattle.spx_core.specs.Places.{place_of}
-use Rattle.spx_core.specs.Shapes.{applied_of, implicit_of, in_range_of, in_type_of, infix_of, parenthesized_of, prefix_of}
+use Rattle.spx_core.specs.Shapes.{applied_of, element_of, implicit_of, in_range_of, in_type_of, infix_of, parenthesized_of, prefix_of, selected_of}
 use Rattle.spx_core.specs.Types.{is_numeric, met, operands_fit, right_type, three_fit}
 
 -- ---- which expressions take a type
@@ -132,6 +134,8 @@ taking given (in_range_of op place a low high) =
     (taking (taken (met_in_range (judged a) (judged low) (judged high)) (judged a)) a)
     (taking (taken (met_in_range (judged a) (judged low) (judged high)) (judged low)) low)
     (taking (taken (met_in_range (judged a) (judged low) (judged high)) (judged high)) high))
+taking given (element_of a place i x) = converted given (Element a place i x) (Element (taking None a) place (taking (taken (Of x.index.base) (judged i)) i) x)
+taking given (selected_of a field x) = converted given (Selected a field x) (Selected (taking None a) field x)
 
 -- an expression where it meets this type
 abbrev pub in_context : ExprType → CoreExpr → CoreExpr
@@ -195,5 +199,14 @@ module _ (given : Option BaseType) where
   unfolding taking hidden-the_row-CoreExpr-0 hidden
   taking-InRange op place a low high = refl
 
+  pub taking-Element : (a : CoreExpr) (place : Place) (i : CoreExpr) (x : Indexing)
+      → taking given (Element a place i x) ≡ converted given (Element a place i x) (Element (taking None a) place (taking (taken (Of x.index.base) (judged i)) i) x)
+  unfolding taking hidden-the_row-CoreExpr-0 hidden
+  taking-Element a place i x = refl
+
+  pub taking-Selected : (a : CoreExpr) (field : Identifier) (x : Selection) → taking given (Selected a field x) ≡ converted given (Selected a field x) (Selected (taking None a) field x)
+  unfolding taking hidden-the_row-CoreExpr-0 hidden
+  taking-Selected a field x = refl
+
 -- all of these laws
-pub ruleset taking_forms = (taking-Number, taking-Name, taking-Entry, taking-Attribute, taking-Applied, taking-Parenthesized, taking-Implicit, taking-Prefix, taking-Infix, taking-InType, taking-InRange)
+pub ruleset taking_forms = (taking-Number, taking-Name, taking-Entry, taking-Attribute, taking-Applied, taking-Parenthesized, taking-Implicit, taking-Prefix, taking-Infix, taking-InType, taking-InRange, taking-Element, taking-Selected)
