@@ -1,5 +1,5 @@
 -- Resolution makes no parts: in what is resolved no expression names an element or a field.
-use Rattle.std.proofs.Common.{◌≡◌, List, [], ◌++◌, sym, ap, ap₂, subst, ◌∙◌}
+use Rattle.std.proofs.Common.{◌≡◌, List, [], ◌++◌, ap, ap₂, subst, ◌∙◌}
 use Rattle.spx_tree.specs.declared.expression.Name.TheVariants.{Simple, Attribute}
 use Rattle.spx_tree.specs.declared.expression.Expr.{Expr, Expr-F, roll-Expr, map-Expr, ind-Expr, fold-roll-Expr}
 use Rattle.spx_core.specs.declared.expression.CoreExpr.{CoreExpr}

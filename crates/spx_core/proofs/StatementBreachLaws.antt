@@ -27,8 +27,8 @@ use Rattle.spx_core.specs.NameBreaches.{BreaksBound, BreaksChoice, BreaksCommand
 use Rattle.spx_core.specs.Statements.{are_given_once, assignment, chosen, has_right_choices, judged_alternatives, judged_bounds, judged_choice, judged_choices, judged_command, judged_count, judged_heads, selected, static_at, test}
 use Rattle.spx_core.specs.Types.{are_apart, cover, has_numbers, is_of, is_ordered, is_same_type, lies_in}
 use Rattle.spx_core.proofs.Elements.{in_cases, in_first, in_none, in_rest}
-use Rattle.spx_core.proofs.Judgements.{bound, by_part, by_test, each_broken, joined, kept, ok_is, passes_at, some_is}
-use Rattle.spx_core.proofs.TypedLaws.{complete, sound}
+use Rattle.spx_core.proofs.Judgements.{bound, by_part, by_test, each_broken, joined, kept, ok_is, passes_at}
+use Rattle.spx_core.proofs.TypedLaws.{sound}
 use Rattle.spx_core.proofs.NameBreachLaws.{At, condition_found, expr_found, no_condition, no_expr, no_type_reference, one_typing, referred_is, same_type_named, target_is, type_reference_found}
 use Rattle.spx_core.proofs.TargetBreachLaws.{no_bound, no_target, one_target, operand_found, operand_passes, target_breach_found, target_leads, way_leads}
 use Rattle.spx_core.proofs.DeclarationBreachLaws.{static_is, unstatic}
