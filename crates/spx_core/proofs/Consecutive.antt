@@ -36,6 +36,7 @@ use Rattle.spx_core.specs.declared.statement.CoreStmt.{CoreStmt}
 use Rattle.spx_core.specs.declared.statement.CoreArm.{CoreArm}
 use Rattle.spx_core.specs.declared.statement.CoreAlternative.{CoreAlternative}
 use Rattle.spx_core.specs.declared.dependency.CoreDerivesItem.{CoreDerivesItem}
+use Rattle.spx_core.specs.declared.program.TypeForm.TheVariants.{Scalar}
 use Rattle.spx_core.specs.declared.program.TypeRow.{TypeRow}
 use Rattle.spx_core.specs.declared.program.Var.{Var}
 use Rattle.spx_core.specs.declared.program.Program.{Program}
@@ -148,10 +149,10 @@ module _ (more : List TypeRow) where
       ∙ ap (λ (rows : List TypeRow). slice_get rows (length (standard_types ++ front))) (sym (append_assoc standard_types front (row ∷ back)))
       ∙ seam (standard_types ++ front) row back
 
-  new_has_row : (front back : List TypeRow) (position : ℕ) (name : List ℕ) (subtype : Subtype) → length (standard_types ++ front) ≡ position → more ≡ front ++ (record { name = name; subtype = subtype }) ∷ back
+  new_has_row : (front back : List TypeRow) (position : ℕ) (name : List ℕ) (subtype : Subtype) → length (standard_types ++ front) ≡ position → more ≡ front ++ (record { name = name; subtype = subtype; form = Scalar }) ∷ back
       → IsNew position subtype → HasRow more subtype
   new_has_row front back position name subtype at is (inl new) =
-      ap (λ (id : TypeId). option_map (λ (r : TypeRow). r.subtype) (row_at more id.0)) new ∙ ap (option_map (λ (r : TypeRow). r.subtype)) (row_stands front back (record { name = name; subtype = subtype }) position at is)
+      ap (λ (id : TypeId). option_map (λ (r : TypeRow). r.subtype) (row_at more id.0)) new ∙ ap (option_map (λ (r : TypeRow). r.subtype)) (row_stands front back (record { name = name; subtype = subtype; form = Scalar }) position at is)
   new_has_row front back position name subtype at is (inr universal) = subst (HasRow more) (sym universal) refl
 
   -- ---- what declarations declare

@@ -5,12 +5,14 @@ use Rattle.spx_core.specs.declared.entity.BaseType.{BaseType}
 use Rattle.spx_core.specs.declared.expression.CoreExpr.{CoreExpr, CoreExpr-F, fold-CoreExpr}
 use Rattle.spx_core.specs.declared.expression.CoreExpr.TheVariants.{Implicit}
 use Rattle.spx_core.specs.declared.rule.ExprType.{ExprType}
-use Rattle.spx_core.specs.Contexts.{converted, in_context, is_static, met_in_range, taken, taking, taking-Number, taking-Name, taking-Entry, taking-Attribute, taking-Applied, taking-Parenthesized, taking-Implicit, taking-Prefix, taking-Infix, taking-InType, taking-InRange}
+use Rattle.spx_core.specs.declared.rule.ExprType.TheVariants.{Of}
+use Rattle.spx_core.specs.Contexts.{converted, in_context, is_static, met_in_range, taken, taking, taking-Number, taking-Name, taking-Entry, taking-Attribute, taking-Applied, taking-Parenthesized, taking-Implicit, taking-Prefix, taking-Infix, taking-InType, taking-InRange, taking-Element, taking-Selected}
 use Rattle.spx_core.specs.Erased.{erased_expr, erased_step}
 use Rattle.spx_core.specs.Judged.{judged}
+use Rattle.spx_core.specs.Parts.{parts_in, parts_step}
 use Rattle.spx_core.specs.Places.{place_of}
 use Rattle.spx_core.specs.Reads.{names_read, names_step}
-use Rattle.spx_core.proofs.Callers.Expressions.{Cases, induct, fold-Applied, fold-Parenthesized, fold-Implicit, fold-Prefix, fold-Infix, fold-InType, fold-InRange}
+use Rattle.spx_core.proofs.Callers.Expressions.{Cases, induct, fold-Applied, fold-Parenthesized, fold-Implicit, fold-Prefix, fold-Infix, fold-InType, fold-InRange, fold-Element, fold-Selected}
 
 -- a fold that looks through conversions
 module _ {A : Type 0} (step : CoreExpr-F A → A) (through : (base : BaseType) (place : Place) (x : A) → step (CoreExpr-F.Implicit base place x) ≡ x) where
@@ -58,6 +60,12 @@ module _ {A : Type 0} (step : CoreExpr-F A → A) (through : (base : BaseType) (
         ∙ ap (λ x. step (CoreExpr-F.InRange op place x (folded (taking l low)) (folded (taking h high)))) (p (taken type (judged a)))
         ∙ ap₂ (λ y z. step (CoreExpr-F.InRange op place (folded a) y z)) (q l) (r h)
         ∙ sym (fold-InRange step op place a low high));
+    element = λ a place i x p q given.
+        ap folded (taking-Element given a place i x)
+        ∙ converted_folds given _ _
+        (fold-Element step _ place _ x ∙ ap₂ (λ y z. step (CoreExpr-F.Element y place z x)) (p None) (q (taken (Of x.index.base) (judged i))) ∙ sym (fold-Element step a place i x));
+    selected = λ a field x p given.
+        ap folded (taking-Selected given a field x) ∙ converted_folds given _ _ (fold-Selected step _ field x ∙ ap (λ y. step (CoreExpr-F.Selected y field x)) (p None) ∙ sym (fold-Selected step a field x));
   }
 
   folds_in_context : (type : ExprType) (e : CoreExpr) → folded (in_context type e) ≡ folded e
@@ -70,3 +78,7 @@ reads_in_context = folds_in_context names_step (λ base place x. refl)
 -- and is written as it was
 pub erased_in_context : (type : ExprType) (e : CoreExpr) → erased_expr (in_context type e) ≡ erased_expr e
 erased_in_context = folds_in_context erased_step (λ base place x. refl)
+
+-- and names the parts that it named
+pub parts_in_context : (type : ExprType) (e : CoreExpr) → parts_in (in_context type e) ≡ parts_in e
+parts_in_context = folds_in_context parts_step (λ base place x. refl)

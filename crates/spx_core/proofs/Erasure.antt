@@ -48,7 +48,7 @@ use Rattle.spx_core.proofs.Callers.Bodies.{all_are_units}
 use Rattle.spx_core.proofs.Judgements.{unbroken}
 use Rattle.spx_core.proofs.ResolvedParts.{IsStmt, null, assignment, if_then, if_else, case_of, loop, assertion, exit, IsArm, arm, IsAlternative, alternative, AreStmts, no_stmts, more_stmts, AreArms, no_arms, more_arms, AreAlternatives, no_alternatives, more_alternatives, stmts_are}
 use Rattle.spx_core.specs.Resolved as resolved
-use Rattle.spx_core.specs.Resolved.{after_formals, around_body, around_formals, around_names, at_start, counted, counted_sub, Counts, declared_by, declaring, declaring_all, defining, defining_all, exported_names, formal_names, is_changed_by, items_for, meant_at, place_of_null, resolved_choice, resolved_decl, resolved_decls, resolved_derives, resolved_expr, resolved_formal_part, resolved_function, resolved_in, resolved_item, resolved_name, resolved_param, resolved_params, resolved_predicate, resolved_range, resolved_reference, resolved_scheme, resolved_sub, resolved_subs, resolved_type, unit_name, own_region, declared_before, resolved_count, resolved_condition, resolved_static, type_named}
+use Rattle.spx_core.specs.Resolved.{after_formals, around_body, around_formals, around_names, at_start, counted, counted_sub, Counts, declared_by, declaring, declaring_all, defining, defining_all, exported_names, formal_names, is_changed_by, items_for, meant_at, place_of_null, resolved_choice, resolved_decl, resolved_decls, resolved_derives, resolved_expr, resolved_formal_part, resolved_function, resolved_in, resolved_item, resolved_name, resolved_param, resolved_params, resolved_predicate, resolved_range, resolved_reference, resolved_scheme, resolved_sub, resolved_subs, resolved_target, resolved_type, unit_name, own_region, declared_before, resolved_count, resolved_condition, resolved_static, type_named}
 use Rattle.spx_core.proofs.ContextLaws.{erased_in_context}
 
 -- ---- names and expressions
@@ -166,7 +166,7 @@ module _ (items : List CoreDerivesItem) (outer : Regions) where
     kept_stmt : {region : Region} {position : ℕ} {s : Stmt} {c : CoreStmt} {ds : List Defining} → IsStmt items outer region position s c ds → erased_stmt c ≡ s
     kept_stmt (null region position place) = erased_stmt_at (CoreStmt-F.Null place)
     kept_stmt (assignment region position target value) =
-        erased_stmt_at (CoreStmt-F.Assignment (resolved_reference (region ∷ outer) target) (resolved_expr (type_named (region ∷ outer) target) (region ∷ outer) value))
+        erased_stmt_at (CoreStmt-F.Assignment (resolved_target (region ∷ outer) target) (resolved_expr (type_named (region ∷ outer) target) (region ∷ outer) value))
         ∙ ap₂ stmt.Assignment (kept_reference (region ∷ outer) target) (kept_expr (type_named (region ∷ outer) target) (region ∷ outer) value)
     kept_stmt (if_then region position arms closing cores ds are) = erased_stmt_at (CoreStmt-F.If cores None closing) ∙ ap (λ (a : List Arm). stmt.If a None closing) (kept_arms are)
     kept_stmt (if_else region position arms stmts closing cores body ds es are others) =

@@ -1,9 +1,9 @@
 -- What is reported of a rule on names or types in expressions is broken at that place, and where nothing is reported no rule is broken.
 -- Of each kind of part, a lemma `.._found` says the first, and a lemma `no_..` the second.
-use Rattle.std.proofs.Common.{◌≡◌, ◌⊎◌, ℕ, Bool, true, false, ◌&&◌, ◌||◌, if◌then◌else◌, List, [], ◌∷◌, Option, Some, None, Ok, Err, is_some, codes, refl, sym, ap, ap₂, subst, ◌∙◌, inl, inr, ⊎_elim}
+use Rattle.std.proofs.Common.{◌≡◌, ◌⊎◌, ℕ, ℤ, Bool, true, false, not, ◌&&◌, ◌||◌, if◌then◌else◌, List, [], ◌∷◌, Option, Some, None, Ok, Err, is_some, codes, refl, sym, ap, ap₂, subst, ◌∙◌, inl, inr, ⊎_elim}
 use Rattle.std.specs.Prelude.{Contains}
 use Rattle.std.specs.Str.{str_eq_ignore_ascii_case, str_to_ascii_lowercase}
-use Rattle.std.proofs.lemmas.Bool.{and_from, and_left, and_parts, and_right, both_ways, or_cases}
+use Rattle.std.proofs.lemmas.Bool.{and_from, and_left, and_parts, and_right, both_ways, not-false, not-true, or_cases}
 use Rattle.std.proofs.lemmas.Slice.Eq.{bytes_eq-Decides}
 use Rattle.spx_text.specs.declared.place.Place.{Place}
 use Rattle.spx_tree.specs.declared.expression.Identifier.{Identifier}
@@ -18,6 +18,8 @@ use Rattle.spx_core.specs.declared.entity.Entity.TheVariants as entity
 use Rattle.spx_core.specs.declared.entity.Object.{Object}
 use Rattle.spx_core.specs.declared.entity.Subtype.{Subtype}
 use Rattle.spx_core.specs.declared.entity.VarId.{VarId}
+use Rattle.spx_core.specs.declared.part.Indexing.{Indexing}
+use Rattle.spx_core.specs.declared.part.Selection.{Selection}
 use Rattle.spx_core.specs.declared.name.CoreName.{CoreName}
 use Rattle.spx_core.specs.declared.name.Reference.{Reference}
 use Rattle.spx_core.specs.declared.name.Step.{Step}
@@ -31,15 +33,15 @@ use Rattle.spx_core.specs.declared.rule.RuleName.TheVariants.{N1, N3, N10, N12, 
 use Rattle.spx_core.specs.declared.rule.ExprType.TheVariants.{Of}
 use Rattle.spx_core.specs.declared.rule.Typing.{Typing}
 use Rattle.spx_core.specs.HasType.{HasType}
-use Rattle.spx_core.specs.Judged.{Judged, ◌>>=◌, application, applied_form, attribute, attribute_function, condition, entry_value, expr_step, function_at, has_attribute, implicit, ordered_type, is_attribute, is_first, is_function, is_whole, is_word, judged, keeps, mapped, member_of_range, member_of_type, named_object, named_target, named_type, named_value, object_at, operation, referred_object, referred_target, referred_type, sign, target_at, type_at, value_at, whole}
+use Rattle.spx_core.specs.Judged.{Judged, ◌>>=◌, application, applied_form, attribute, attribute_function, condition, element, entry_value, expr_step, function_at, has_attribute, implicit, ordered_type, is_attribute, is_first, is_function, is_whole, is_word, judged, keeps, mapped, member_of_range, member_of_type, named_object, named_target, named_type, named_value, object_at, operand_of, operation, referred_object, referred_type, selected, sign, standing_at, target_at, type_at, value_at, whole}
 use Rattle.spx_core.specs.NameBreaches as broken
-use Rattle.spx_core.specs.NameBreaches.{BreaksCondition, BreaksExpr, BreaksName, BreaksProgram, BreaksReference, BreaksSub, IsObject, IsTarget, IsType, IsValue, assigned_type}
+use Rattle.spx_core.specs.NameBreaches.{BreaksCondition, BreaksExpr, BreaksName, BreaksReference, IsObject, IsTarget, IsType, IsValue, assigned_type}
 use Rattle.spx_core.specs.Statements.{test}
-use Rattle.spx_core.specs.Types.{both_held, has_literals, has_numbers, is_boolean, is_held, is_numeric, is_of, is_taken, left_type, lies_in, lies_in_operand, lies_within, met, operand_fits, operands_fit, result_of, result_type, right_type, shifted_value, signed_result, three_fit}
+use Rattle.spx_core.specs.Types.{both_held, has_literals, has_numbers, has_parts, is_boolean, is_held, is_numeric, is_of, is_taken, is_typed_at, left_type, lies_in, lies_in_operand, lies_within, met, operand_fits, operands_fit, result_of, result_type, right_type, shifted_value, signed_result, three_fit}
 use Rattle.spx_core.proofs.Elements.{in_first, in_none}
 use Rattle.spx_core.proofs.Judgements.{bound, by_part, by_test, joined, kept, ok_is}
 use Rattle.spx_core.proofs.TypedLaws.{complete, sound}
-use Rattle.spx_core.proofs.Callers.Expressions.{Cases, induct, fold-Number, fold-Name, fold-Entry, fold-Attribute, fold-Applied, fold-Parenthesized, fold-Implicit, fold-Prefix, fold-Infix, fold-InType, fold-InRange}
+use Rattle.spx_core.proofs.Callers.Expressions.{Cases, induct, fold-Number, fold-Name, fold-Entry, fold-Attribute, fold-Applied, fold-Parenthesized, fold-Implicit, fold-Prefix, fold-Infix, fold-InType, fold-InRange, fold-Element, fold-Selected}
 
 -- ---- names
 
@@ -59,14 +61,24 @@ object_found name (Some (entity.NamedNumber n)) b is h = told (BreaksName IsObje
 object_found name (Some (entity.Literal subtype position)) b is h = told (BreaksName IsObject name) N3 name.name.place b h (broken.of_another_kind (entity.Literal subtype position) is (λ o. let e = o.2 in cc))
 object_found name (Some (entity.Subprogram s)) b is h = told (BreaksName IsObject name) N3 name.name.place b h (broken.of_another_kind (entity.Subprogram s) is (λ o. let e = o.2 in cc))
 
-value_found : (name : CoreName) (e : Option Entity) (b : Breach) → name.entity ≡ e → value_at name.name.place e ≡ Err b → At (BreaksName IsValue name) b
-value_found name None b is h = told (BreaksName IsValue name) N1 name.name.place b h (broken.undeclared is)
+-- what stands for a value of a type with parts
+standing_found : (Breaks : RuleName → Place → Type 0) (place : Place) (subtype : Subtype) (n : ℤ) (b : Breach) → standing_at place subtype n ≡ Err b → (has_parts subtype.base.class ≡ true → Breaks N10 place) → At Breaks b
+standing_found Breaks place subtype n b h broken =
+    let plain = not (has_parts subtype.base.class) in
+    by_part (keeps N10 place plain) _ b h (λ e. by_test Breaks N10 place plain b e (λ no. broken (not-false (has_parts subtype.base.class) no))) (λ _ _ h. absurd cc)
+
+value_found : (name : CoreName) (e : Option Entity) (b : Breach) → name.entity ≡ e → value_at name.name.place e ≡ Err b → At (BreaksExpr (expr.Name name)) b
+value_found name None b is h = broken.name name b.rule b.place (told (BreaksName IsValue name) N1 name.name.place b h (broken.undeclared is))
 value_found name (Some (entity.Variable v object)) b is h = absurd cc
-value_found name (Some (entity.Constant subtype n)) b is h = absurd cc
+value_found name (Some (entity.Constant subtype n)) b is h = standing_found (BreaksExpr (expr.Name name)) name.name.place subtype n b h (broken.constant_with_parts name subtype n is)
 value_found name (Some (entity.NamedNumber n)) b is h = absurd cc
-value_found name (Some (entity.Literal subtype position)) b is h = absurd cc
-value_found name (Some (entity.TypeName subtype)) b is h = told (BreaksName IsValue name) N3 name.name.place b h (broken.of_another_kind (entity.TypeName subtype) is (⊎_elim (λ o. let e = o.2 in cc) (⊎_elim (⊎_elim (λ c. let e = c.2 in cc) (λ n. let e = n.1 in cc)) (λ l. let e = l.2 in cc))))
-value_found name (Some (entity.Subprogram s)) b is h = told (BreaksName IsValue name) N3 name.name.place b h (broken.of_another_kind (entity.Subprogram s) is (⊎_elim (λ o. let e = o.2 in cc) (⊎_elim (⊎_elim (λ c. let e = c.2 in cc) (λ n. let e = n.1 in cc)) (λ l. let e = l.2 in cc))))
+value_found name (Some (entity.Literal subtype position)) b is h = standing_found (BreaksExpr (expr.Name name)) name.name.place subtype position b h (broken.literal_with_parts name subtype position is)
+value_found name (Some (entity.TypeName subtype)) b is h =
+    broken.name name b.rule b.place
+    (told (BreaksName IsValue name) N3 name.name.place b h (broken.of_another_kind (entity.TypeName subtype) is (⊎_elim (λ o. let e = o.2 in cc) (⊎_elim (⊎_elim (λ c. let e = c.2 in cc) (λ n. let e = n.1 in cc)) (λ l. let e = l.2 in cc)))))
+value_found name (Some (entity.Subprogram s)) b is h =
+    broken.name name b.rule b.place
+    (told (BreaksName IsValue name) N3 name.name.place b h (broken.of_another_kind (entity.Subprogram s) is (⊎_elim (λ o. let e = o.2 in cc) (⊎_elim (⊎_elim (λ c. let e = c.2 in cc) (λ n. let e = n.1 in cc)) (λ l. let e = l.2 in cc)))))
 
 type_found : (name : CoreName) (e : Option Entity) (b : Breach) → name.entity ≡ e → type_at name.name.place e ≡ Err b → At (BreaksName IsType name) b
 type_found name None b is h = told (BreaksName IsType name) N1 name.name.place b h (broken.undeclared is)
@@ -77,7 +89,7 @@ type_found name (Some (entity.NamedNumber n)) b is h = told (BreaksName IsType n
 type_found name (Some (entity.Literal subtype position)) b is h = told (BreaksName IsType name) N3 name.name.place b h (broken.of_another_kind (entity.Literal subtype position) is (λ o. let e = o.1 in cc))
 type_found name (Some (entity.Subprogram s)) b is h = told (BreaksName IsType name) N3 name.name.place b h (broken.of_another_kind (entity.Subprogram s) is (λ o. let e = o.1 in cc))
 
-target_found : (name : CoreName) (e : Option Entity) (b : Breach) → name.entity ≡ e → target_at name.name.place e ≡ Err b → At (BreaksName IsTarget name) b
+pub target_found : (name : CoreName) (e : Option Entity) (b : Breach) → name.entity ≡ e → target_at name.name.place e ≡ Err b → At (BreaksName IsTarget name) b
 target_found name None b is h = told (BreaksName IsTarget name) N1 name.name.place b h (broken.undeclared is)
 target_found name (Some (entity.Variable v object)) b is h = absurd cc
 target_found name (Some (entity.Constant subtype n)) b is h = absurd cc
@@ -122,6 +134,12 @@ value_is place (Some (entity.Literal subtype position)) t h = (entity.Literal su
 value_is place (Some (entity.TypeName s)) t h = absurd cc
 value_is place (Some (entity.Subprogram s)) t h = absurd cc
 
+-- what stands for a value has no parts
+standing_is : (place : Place) (subtype : Subtype) (n : ℤ) (t : Typing) → standing_at place subtype n ≡ Ok t → has_parts subtype.base.class ≡ false
+standing_is place subtype n t h =
+    let k = bound (keeps N10 place (not (has_parts subtype.base.class))) _ t h in
+    not-true (has_parts subtype.base.class) (kept N10 place _ k.1)
+
 -- a name that denotes what is needed breaks no rule
 no_name : (IsNeeded : Entity → Type 0) (name : CoreName) (e : Entity) → name.entity ≡ Some e → IsNeeded e → (rule : RuleName) (place : Place) → ¬ BreaksName IsNeeded name rule place
 no_name IsNeeded name e is needed _ _ (broken.undeclared none) = cc
@@ -130,7 +148,7 @@ no_name IsNeeded name e is needed _ _ (broken.of_another_kind other at unneeded)
 no_object_name : (name : CoreName) (object : Object) → named_object name ≡ Ok object → (rule : RuleName) (place : Place) → ¬ BreaksName IsObject name rule place
 no_object_name name object h = let o = object_is name.name.place name.entity object h in no_name IsObject name (entity.Variable o.0 object) o.1 (o.0, object, refl)
 
-no_target_name : (name : CoreName) (subtype : Subtype) → named_target name ≡ Ok subtype → (rule : RuleName) (place : Place) → ¬ BreaksName IsTarget name rule place
+pub no_target_name : (name : CoreName) (subtype : Subtype) → named_target name ≡ Ok subtype → (rule : RuleName) (place : Place) → ¬ BreaksName IsTarget name rule place
 no_target_name name subtype h = let t = target_is name.name.place name.entity subtype h in no_name IsTarget name t.0 t.1 (subtype, t.2)
 
 no_value_name : (name : CoreName) (t : Typing) → named_value name ≡ Ok t → (rule : RuleName) (place : Place) → ¬ BreaksName IsValue name rule place
@@ -141,11 +159,11 @@ no_type_name name subtype h = no_name IsType name (entity.TypeName subtype) (typ
 
 -- ---- names with what follows their first identifier
 
-some_step : (way : List Step) → is_whole way ≡ false → (step : Step) × Contains way step
+pub some_step : (way : List Step) → is_whole way ≡ false → (step : Step) × Contains way step
 some_step [] h = absurd cc
 some_step (step ∷ way) h = (step, in_first step way)
 
-no_step : (way : List Step) (step : Step) → is_whole way ≡ true → Contains way step → ⊥
+pub no_step : (way : List Step) (step : Step) → is_whole way ≡ true → Contains way step → ⊥
 no_step [] step h is = in_none step is
 no_step (first ∷ way) step h is = cc
 
@@ -171,18 +189,10 @@ object_reference_found reference b h = reference_found IsObject (named_object re
 pub type_reference_found : (reference : Reference) (b : Breach) → referred_type reference ≡ Err b → At (BreaksReference IsType reference) b
 type_reference_found reference b h = reference_found IsType (named_type reference.root) reference b (type_found reference.root _ b refl) h
 
-pub target_reference_found : (reference : Reference) (b : Breach) → referred_target reference ≡ Err b → At (BreaksReference IsTarget reference) b
-target_reference_found reference b h = reference_found IsTarget (named_target reference.root) reference b (target_found reference.root _ b refl) h
-
 pub no_object_reference : (reference : Reference) (object : Object) → referred_object reference ≡ Ok object → (rule : RuleName) (place : Place) → ¬ BreaksReference IsObject reference rule place
 no_object_reference reference object h =
     let is = reference_is IsObject (named_object reference.root) reference object h in
     no_reference IsObject (named_object reference.root) reference is.1 (no_object_name reference.root object is.0)
-
-pub no_target_reference : (reference : Reference) (subtype : Subtype) → referred_target reference ≡ Ok subtype → (rule : RuleName) (place : Place) → ¬ BreaksReference IsTarget reference rule place
-no_target_reference reference subtype h =
-    let is = reference_is IsTarget (named_target reference.root) reference subtype h in
-    no_reference IsTarget (named_target reference.root) reference is.1 (no_target_name reference.root subtype is.0)
 
 pub no_type_reference : (reference : Reference) (subtype : Subtype) → referred_type reference ≡ Ok subtype → (rule : RuleName) (place : Place) → ¬ BreaksReference IsType reference rule place
 no_type_reference reference subtype h =
@@ -321,10 +331,26 @@ member_of_range_found op at a low high o l u d c f b h =
     by_part (keeps N12 l.place (lies_in of l.value)) _ b h (of_three l (inr (inl refl))) (λ _ _ h.
     by_part (keeps N12 u.place (lies_in of u.value)) _ b h (of_three u (inr (inr refl))) (λ _ _ h. absurd cc))))
 
+-- what is needed of an index
+index_found : (a : CoreExpr) (at : Place) (i : CoreExpr) (x : Indexing) (k : Typing) → HasType i k → (b : Breach) → operand_of x.index k ≡ Err b → At (BreaksExpr (expr.Element a at i x)) b
+index_found a at i x k d b h =
+    let Breaks = BreaksExpr (expr.Element a at i x) in
+    by_part (keeps N10 k.place (is_of x.index.base k.of)) _ b h (λ e. by_test Breaks N10 k.place (is_of x.index.base k.of) b e (broken.index_of_another_type a at i x k d)) (λ _ _ e.
+    by_test Breaks N12 k.place (lies_in (Of x.index.base) k.value) b e (broken.index_out_of_type a at i x k d))
+
+element_found : (a : CoreExpr) (at : Place) (i : CoreExpr) (x : Indexing) (o k : Typing) → HasType a o → HasType i k → (b : Breach) → element x o k ≡ Err b → At (BreaksExpr (expr.Element a at i x)) b
+element_found a at i x o k d f b h =
+    by_part (keeps N10 o.place (is_typed_at x.array o.of)) _ b h (λ e. by_test (BreaksExpr (expr.Element a at i x)) N10 o.place (is_typed_at x.array o.of) b e (broken.no_array a at i x o d)) (λ _ _ h.
+    by_part (operand_of x.index k) _ b h (index_found a at i x k f b) (λ _ _ h. absurd cc))
+
+selected_found : (a : CoreExpr) (field : Identifier) (x : Selection) (o : Typing) → HasType a o → (b : Breach) → selected x o ≡ Err b → At (BreaksExpr (expr.Selected a field x)) b
+selected_found a field x o d b h =
+    by_part (keeps N10 o.place (is_typed_at x.record o.of)) _ b h (λ e. by_test (BreaksExpr (expr.Selected a field x)) N10 o.place (is_typed_at x.record o.of) b e (broken.no_record a field x o d)) (λ _ _ h. absurd cc)
+
 found_cases : Cases Found
 found_cases = record {
   number = λ n place b h. let e = sym (fold-Number expr_step n place) ∙ h in absurd cc;
-  name = λ n b h. broken.name n b.rule b.place (value_found n _ b refl (sym (fold-Name expr_step n) ∙ h));
+  name = λ n b h. value_found n _ b refl (sym (fold-Name expr_step n) ∙ h);
   entry = λ n allowed b h. entry_found n allowed b (sym (fold-Entry expr_step n allowed) ∙ h);
   attribute = λ prefix designator b h. attribute_found prefix designator b (sym (fold-Attribute expr_step prefix designator) ∙ h);
   applied = λ f at a p b h.
@@ -345,6 +371,11 @@ found_cases = record {
       by_part (judged low) _ b h (λ e. broken.low_bound op at a low high b.rule b.place (q b e)) (λ l second h.
       by_part (judged high) _ b h (λ e. broken.high_bound op at a low high b.rule b.place (r b e)) (λ u third e.
       member_of_range_found op at a low high o l u (sound a o first) (sound low l second) (sound high u third) b e)));
+  element = λ a at i x p q b h.
+      by_part (judged a) _ b (sym (fold-Element expr_step a at i x) ∙ h) (λ e. broken.whole a at i x b.rule b.place (p b e)) (λ o first h.
+      by_part (judged i) _ b h (λ e. broken.index a at i x b.rule b.place (q b e)) (λ k second e. element_found a at i x o k (sound a o first) (sound i k second) b e));
+  selected = λ a field x p b h.
+      by_part (judged a) _ b (sym (fold-Selected expr_step a field x) ∙ h) (λ e. broken.record_of a field x b.rule b.place (p b e)) (λ o is e. selected_found a field x o (sound a o is) b e);
 }
 
 pub expr_found : (e : CoreExpr) → Found e
@@ -538,6 +569,35 @@ in_range_passes op at a low high o l u t d c f h =
     let all = joined (λ o. judged low >>= λ l. judged high >>= λ u. member_of_range op at o l u) (complete a o d) ∙ joined (λ l. judged high >>= λ u. member_of_range op at o l u) (complete low l c) ∙ joined (member_of_range op at o l) (complete high u f) in
     member_of_range_passes op at o l u t (sym all ∙ sym (fold-InRange expr_step op at a low high) ∙ h)
 
+-- what an element passes that gives something
+record PassesElement (x : Indexing) (o k : Typing) : Type 0 where
+  of_array : is_typed_at x.array o.of ≡ true
+  index_type : is_of x.index.base k.of ≡ true
+  index_lies : lies_in (Of x.index.base) k.value ≡ true
+
+element_parts : (a : CoreExpr) (at : Place) (i : CoreExpr) (x : Indexing) (t : Typing) → judged (expr.Element a at i x) ≡ Ok t → (o : Typing) × (k : Typing) × (judged a ≡ Ok o) × (judged i ≡ Ok k) × PassesElement x o k
+element_parts a at i x t h =
+    let o = bound (judged a) _ t (sym (fold-Element expr_step a at i x) ∙ h) in
+    let k = bound (judged i) _ t o.2 in
+    let whole = bound (keeps N10 o.0.place (is_typed_at x.array o.0.of)) _ t k.2 in
+    let inside = bound (operand_of x.index k.0) _ t whole.2 in
+    let of = bound (keeps N10 k.0.place (is_of x.index.base k.0.of)) _ tt inside.1 in
+    (o.0, k.0, o.1, k.1, record { of_array = kept N10 o.0.place _ whole.1; index_type = kept N10 k.0.place _ of.1; index_lies = kept N12 k.0.place _ of.2 })
+
+selected_parts : (a : CoreExpr) (field : Identifier) (x : Selection) (t : Typing) → judged (expr.Selected a field x) ≡ Ok t → (o : Typing) × (judged a ≡ Ok o) × (is_typed_at x.record o.of ≡ true)
+selected_parts a field x t h =
+    let o = bound (judged a) _ t (sym (fold-Selected expr_step a field x) ∙ h) in
+    let whole = bound (keeps N10 o.0.place (is_typed_at x.record o.0.of)) _ t o.2 in
+    (o.0, o.1, kept N10 o.0.place _ whole.1)
+
+-- one expression has one type
+pub one_typing : (e : CoreExpr) (t u : Typing) → judged e ≡ Ok t → HasType e u → t ≡ u
+one_typing e t u h d = ok_is (sym h ∙ complete e u d)
+
+-- a name of what stands for a value
+standing_name : (n : CoreName) (e : Entity) (t : Typing) → n.entity ≡ Some e → judged (expr.Name n) ≡ Ok t → value_at n.name.place (Some e) ≡ Ok t
+standing_name n e t is ok = ap (value_at n.name.place) (sym is) ∙ sym (fold-Name expr_step n) ∙ ok
+
 -- a value on entry is that of a variable, and allowed
 entry_passes : (name : CoreName) (allowed : Bool) (t : Typing) → judged (expr.Entry name allowed) ≡ Ok t → (object : Object) × (named_object name ≡ Ok object) × (allowed ≡ true)
 entry_passes name allowed t h =
@@ -547,6 +607,8 @@ entry_passes name allowed t h =
 
 pub no_expr : (e : CoreExpr) (rule : RuleName) (place : Place) → BreaksExpr e rule place → (t : Typing) → judged e ≡ Ok t → ⊥
 no_expr _ _ _ (broken.name n rule place h) t ok = no_value_name n t (sym (fold-Name expr_step n) ∙ ok) rule place h
+no_expr _ _ _ (broken.constant_with_parts n subtype k is parts) t ok = both_ways _ (standing_is n.name.place subtype k t (standing_name n (entity.Constant subtype k) t is ok)) parts
+no_expr _ _ _ (broken.literal_with_parts n subtype k is parts) t ok = both_ways _ (standing_is n.name.place subtype k t (standing_name n (entity.Literal subtype k) t is ok)) parts
 no_expr _ _ _ (broken.entry n allowed rule place h) t ok = let e = entry_passes n allowed t ok in no_object_name n e.0 e.1 rule place h
 no_expr _ _ _ (broken.entry_not_allowed n v object is) t ok = both_ways false refl (entry_passes n false t ok).2
 no_expr _ _ _ (broken.prefix n designator rule place h) t ok = let b = attribute_passes n designator t (sym (fold-Attribute expr_step n designator) ∙ ok) in no_type_name n b.0 b.1.named rule place h
@@ -599,6 +661,15 @@ no_expr _ _ _ (broken.high_bound op at a low high rule place h) t ok =
     no_expr high rule place h u.0 u.1
 no_expr _ _ _ (broken.cannot_take base at a o d fails) t ok = both_ways _ fails (converted_passes base at a o t d ok).0
 no_expr _ _ _ (broken.outside_type_taken base at a o d fails) t ok = both_ways _ fails (converted_passes base at a o t d ok).1
+no_expr _ _ _ (broken.whole a at i x rule place h) t ok = let p = element_parts a at i x t ok in no_expr a rule place h p.0 p.2
+no_expr _ _ _ (broken.index a at i x rule place h) t ok = let p = element_parts a at i x t ok in no_expr i rule place h p.1 p.3
+no_expr _ _ _ (broken.no_array a at i x o d fails) t ok = let p = element_parts a at i x t ok in both_ways _ fails (subst (λ (o : Typing). is_typed_at x.array o.of ≡ true) (one_typing a p.0 o p.2 d) p.4.of_array)
+no_expr _ _ _ (broken.index_of_another_type a at i x k d fails) t ok = let p = element_parts a at i x t ok in both_ways _ fails (subst (λ (k : Typing). is_of x.index.base k.of ≡ true) (one_typing i p.1 k p.3 d) p.4.index_type)
+no_expr _ _ _ (broken.index_out_of_type a at i x k d fails) t ok =
+    let p = element_parts a at i x t ok in
+    both_ways _ fails (subst (λ (k : Typing). lies_in (Of x.index.base) k.value ≡ true) (one_typing i p.1 k p.3 d) p.4.index_lies)
+no_expr _ _ _ (broken.record_of a field x rule place h) t ok = let p = selected_parts a field x t ok in no_expr a rule place h p.0 p.1
+no_expr _ _ _ (broken.no_record a field x o d fails) t ok = let p = selected_parts a field x t ok in both_ways _ fails (subst (λ (o : Typing). is_typed_at x.record o.of ≡ true) (one_typing a p.0 o p.1 d) p.2)
 no_expr _ _ _ (broken.no_operand op at a o d fails) t ok = both_ways _ fails (signed_passes op at a o t d ok).0
 no_expr _ _ _ (broken.sign_out_of_range op at a o d fails) t ok = both_ways _ fails (signed_passes op at a o t d ok).1
 no_expr _ _ _ (broken.no_operands op at a c l r d f fails) t ok = both_ways _ fails (operated_passes op at a c l r t d f ok).fit

@@ -26,7 +26,7 @@ use Rattle.spx_core.proofs.Callers.Expressions.{fold-Number, fold-Name, fold-Ent
 use Rattle.spx_core.proofs.Callers.ListTests.{each_append, some_mapped}
 use Rattle.spx_core.proofs.Callers.Variables.{same_var}
 
-either : {X : Type 0} (Q : X → Type 0) (b : Bool) (x y : X) → Q x → Q y → Q (if b then x else y)
+pub either : {X : Type 0} (Q : X → Type 0) (b : Bool) (x y : X) → Q x → Q y → Q (if b then x else y)
 either Q true x y left right = left
 either Q false x y left right = right
 

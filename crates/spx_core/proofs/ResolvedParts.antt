@@ -21,7 +21,7 @@ use Rattle.spx_core.specs.declared.statement.CoreArm.{CoreArm}
 use Rattle.spx_core.specs.declared.statement.CoreAlternative.{CoreAlternative}
 use Rattle.spx_core.specs.Regions.{Region, Regions}
 use Rattle.spx_core.specs.Resolved as resolved
-use Rattle.spx_core.specs.Resolved.{Part, declared_by_scheme, declaring_all, in_order, parameters_by, parameters_by_alternative, parameters_by_arm, parameters_by_stmts, resolved_alternative, resolved_arm, resolved_choice, resolved_expr, resolved_in, resolved_reference, resolved_scheme, resolved_stmt, resolved_stmts, resolved_condition, type_named}
+use Rattle.spx_core.specs.Resolved.{Part, declared_by_scheme, declaring_all, in_order, parameters_by, parameters_by_alternative, parameters_by_arm, parameters_by_stmts, resolved_alternative, resolved_arm, resolved_choice, resolved_expr, resolved_in, resolved_scheme, resolved_stmt, resolved_stmts, resolved_target, resolved_condition, type_named}
 use Rattle.spx_core.proofs.Callers.LoopParameters.{parameters-Null, parameters-Assignment, parameters-If, parameters-If-else, parameters-Case, parameters-Loop, parameters-Assertion, parameters-Exit, parameters-arm, parameters-alternative}
 
 -- In this innermost region and from this position on, the written part is resolved to the other, and its loops have these parameters.
@@ -29,7 +29,7 @@ mutual
   pub data IsStmt (items : List CoreDerivesItem) (outer : Regions) : Region → ℕ → Stmt → CoreStmt → List Defining → Type 0 where
     null : (region : Region) (position : ℕ) (place : Place) → IsStmt items outer region position (written.Null place) (stmt.Null place) []
     assignment : (region : Region) (position : ℕ) (target : Name) (value : Expr)
-        → IsStmt items outer region position (written.Assignment target value) (stmt.Assignment (resolved_reference (region ∷ outer) target) (resolved_expr (type_named (region ∷ outer) target) (region ∷ outer) value)) []
+        → IsStmt items outer region position (written.Assignment target value) (stmt.Assignment (resolved_target (region ∷ outer) target) (resolved_expr (type_named (region ∷ outer) target) (region ∷ outer) value)) []
     if_then : (region : Region) (position : ℕ) (arms : List Arm) (closing : Closing) (cores : List CoreArm) (ds : List Defining) → AreArms items outer region position arms cores ds
         → IsStmt items outer region position (written.If arms None closing) (stmt.If cores None closing) ds
     if_else : (region : Region) (position : ℕ) (arms : List Arm) (stmts : List Stmt) (closing : Closing) (cores : List CoreArm) (body : List CoreStmt) (ds es : List Defining) → AreArms items outer region position arms cores ds

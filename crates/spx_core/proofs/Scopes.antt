@@ -1,7 +1,7 @@
 -- The names of a subprogram denote the variables that it declares, each with what is declared of it.
-use Rattle.std.proofs.Common.{◌≡◌, ℕ, ◌+◌, Bool, true, false, ◌||◌, List, [], ◌∷◌, ◌++◌, length, map, Option, Some, None, option_map, is_some, refl, sym, ap, ap₂, subst, ◌∙◌, ⊎_elim, append_assoc, length-append, ◌≤◌, take, drop, inl, inr, arith}
+use Rattle.std.proofs.Common.{◌≡◌, ℕ, ◌+◌, Bool, true, false, ◌||◌, List, [], ◌∷◌, ◌++◌, length, map, Option, Some, None, option_map, is_some, refl, sym, ap, ap₂, subst, ◌∙◌, ⊎_elim, append-nil, append_assoc, length-append, ◌≤◌, take, drop, inl, inr, arith}
 use Rattle.std.specs.Prelude.{⊤, All, ◌&&◌, option_and_then, slice_get, ◌==◌}
-use Rattle.std.specs.List.{AllByRecursion, flat_map, list_any}
+use Rattle.std.specs.List.{AllByRecursion, filter_map, flat_map, list_any}
 use Rattle.std.proofs.lemmas.Bool.{and_parts, false_from_ne_true, or_cases, or_left, or_right, eqb-true}
 use Rattle.std.proofs.lemmas.List.{length-map, map-append, take-append-drop}
 use Rattle.std.proofs.Common.{get_or}
@@ -29,7 +29,7 @@ use Rattle.spx_core.specs.declared.entity.Object.{Object}
 use Rattle.spx_core.specs.declared.entity.Subtype.{Subtype}
 use Rattle.spx_core.specs.declared.name.CoreName.{CoreName}
 use Rattle.spx_core.specs.declared.name.Defining.{Defining}
-use Rattle.spx_core.specs.declared.name.Reference.{Reference}
+use Rattle.spx_core.specs.declared.part.Target.{Target}
 use Rattle.spx_core.specs.declared.expression.CoreExpr.{CoreExpr}
 use Rattle.spx_core.specs.declared.statement.CoreStmt.{CoreStmt}
 use Rattle.spx_core.specs.declared.statement.CoreArm.{CoreArm}
@@ -46,23 +46,25 @@ use Rattle.spx_core.specs.declared.subprogram.CorePredicate.{CorePredicate}
 use Rattle.spx_core.specs.declared.subprogram.Sub.{Sub}
 use Rattle.spx_core.specs.Commands.{Command, Skip, Set, Then, Choose, Select, Assertion, Repeat, Leave, Tested, Counted, Endless, Alternatives, Last, When, alternatives_of, arm_before, arms_before, command, commands, leaves, select}
 use Rattle.spx_core.specs.Commands as commands_of
-use Rattle.spx_core.specs.Reads.{names_read}
+use Rattle.spx_core.specs.Parts.{IsAsFormed, parts_in, parts_in_bounds, parts_on_way}
+use Rattle.spx_core.specs.Reads.{names_on_way, names_read}
 use Rattle.spx_core.specs.Uses.{denotes, mentions, uses, is_same}
 use Rattle.spx_core.specs.Dependency.{items_of}
 use Rattle.spx_core.specs.Mirror.DerivesItems.{has_export, has_import}
 use Rattle.spx_core.specs.Formals.{is_formal, is_local, mode_in, mode_of, stands_in, inner, is_inner, is_loop_parameter}
-use Rattle.spx_core.specs.Effects.{Effect, Read, chosen, counts, effect, effect_among, is_read, reads, reads_of, sets, assigns, reads_in, reads_of_range}
+use Rattle.spx_core.specs.Effects.{Effect, Read, chosen, counts, effect, effect_among, is_read, read_of, reads, reads_assigned, reads_of, sets, assigns, reads_in, reads_of_range}
 use Rattle.spx_core.specs.Obeyed.{mode_denoted}
 use Rattle.spx_core.specs.Regions.{Region, Regions}
-use Rattle.spx_core.specs.Resolved.{after_formals, around_body, at_start, counted_sub, Counts, declaring, declaring_all, exported_names, formal_names, items_for, local_names, local_variables, own_types, own_vars, resolved_derives, resolved_expr, resolved_in, resolved_item, resolved_predicate, resolved_reference, resolved_sub, resolved_subs, standard_types, unit_name, var_of, around_names, declared_by_count, loop_names, object_of, positions, resolved_choice, resolved_count, resolved_range, resolved_condition, type_named}
+use Rattle.spx_core.specs.Resolved.{after_formals, around_body, at_start, counted_sub, Counts, declaring, declaring_all, exported_names, formal_names, items_for, local_names, local_variables, own_types, own_vars, resolved_derives, resolved_expr, resolved_in, resolved_item, resolved_predicate, resolved_reference, resolved_sub, resolved_subs, resolved_target, standard_types, unit_name, var_of, around_names, declared_by_count, loop_names, object_of, positions, resolved_choice, resolved_count, resolved_range, resolved_condition, type_named}
 use Rattle.spx_core.proofs.ContextLaws.{reads_in_context}
+use Rattle.spx_core.proofs.Partless.{no_parts_in_context}
 use Rattle.spx_core.specs.Contexts.{in_context}
 use Rattle.spx_core.specs.declared.rule.ExprType.{ExprType}
 use Rattle.spx_core.specs.declared.rule.ExprType.TheVariants.{Of}
 use Rattle.spx_core.specs.declared.entity.TheConstants.{INTEGER}
 use Rattle.spx_core.specs.Resolved as resolved
 use Rattle.spx_core.specs.Erased.{Visible, erased}
-use Rattle.spx_core.specs.Scopes.{AllAreAsDeclared, AllHaveTheirModes, AreAsDeclared, HasItsMode, HaveTheirModes, IsAsDeclared, Scoped, TargetsHaveTheirModes, kind_of, object_declared, object_in, IsInnerKind, LoopsDiffer, names_in_bounds}
+use Rattle.spx_core.specs.Scopes.{AllAreAsDeclared, AllAreAsFormed, AllHaveTheirModes, AreAsDeclared, AreAsFormed, HasItsMode, HaveTheirModes, IsAsDeclared, Scoped, TargetsHaveTheirModes, kind_of, object_declared, object_in, IsInnerKind, LoopsDiffer, names_in_bounds}
 use Rattle.spx_core.proofs.Callers.Pairs.{exports_are, imports_are}
 use Rattle.spx_core.proofs.Callers.ListTests.{each_append, some_mapped, each_split}
 use Rattle.spx_core.proofs.Callers.FlowLaws.{assigns_chosen, counts_chosen, reads_chosen, reads_uses, sets_by}
@@ -97,8 +99,8 @@ mode_is p v kind is = mode_in_row kind (slice_get p.vars v.0) is
 -- one thing holds of the types, and one of the variables, that regions declare
 module _ (T : Subtype → Type 0) (P : VarId → Object → Type 0) where
   -- a target is what some name is in such regions
-  abbrev IsTarget : Reference → Type 0
-  IsTarget target = (regions : Regions) × (name : Name) × AllByRecursion (HoldsIn T P) regions × (target ≡ resolved_reference regions name)
+  abbrev IsTarget : Target → Type 0
+  IsTarget target = (regions : Regions) × (name : Name) × AllByRecursion (HoldsIn T P) regions × (target ≡ resolved_target regions name)
 
   -- a value is what some expression is there, whatever type it meets and whichever items say of what values on entry may be named
   abbrev IsValue : CoreExpr → Type 0
@@ -127,6 +129,10 @@ module _ (T : Subtype → Type 0) (P : VarId → Object → Type 0) where
     AllResolve low (Last choices a) = Resolves low a
     AllResolve low (When choices a rest) = Resolves low a × AllResolve low rest
 
+  -- a target has no parts, so that only the value is read
+  assigned_reads : (target : Target) (value : CoreExpr) → IsTarget target → reads_assigned target value ≡ reads_of value
+  assigned_reads target value written = ap (λ (t : Target). reads_assigned t value) written.3 ∙ ap (filter_map read_of) (append-nil (names_read value))
+
   bounds_are_values : (type : ExprType) (regions : Regions) → AllByRecursion (HoldsIn T P) regions → (bounds : Option Range) → AreValues (option_map (resolved_range type regions) bounds)
   bounds_are_values type regions all None = tt
   bounds_are_values type regions all (Some range) = ((type, regions, [], range.low, all, refl), (type, regions, [], range.high, all, refl))
@@ -141,7 +147,7 @@ module _ (T : Subtype → Type 0) (P : VarId → Object → Type 0) where
       stmt_resolves : (low : ℕ) {region : Region} {position : ℕ} {s : Stmt} {c : CoreStmt} {ds : List Defining} → IsStmt items outer region position s c ds → low ≤ position → HoldsIn T P region → AllHold T P ds → Resolves low (command c)
       stmt_resolves low (null region position place) at own all = subst (Resolves low) (sym (command-Null place)) tt
       stmt_resolves low (assignment region position target value) at own all =
-          subst (Resolves low) (sym (command-Assignment (resolved_reference (region ∷ outer) target) (resolved_expr (type_named (region ∷ outer) target) (region ∷ outer) value)))
+          subst (Resolves low) (sym (command-Assignment (resolved_target (region ∷ outer) target) (resolved_expr (type_named (region ∷ outer) target) (region ∷ outer) value)))
           ((region ∷ outer, target, (own, known), refl), (type_named (region ∷ outer) target, region ∷ outer, [], value, (own, known), refl))
       stmt_resolves low (if_then region position arms closing cores ds are) at own all =
           subst (Resolves low) (sym (command-If (stmt.If cores None closing) cores None closing refl refl)) (arms_resolve low are at own all Skip tt)
@@ -270,7 +276,7 @@ module _ (T : Subtype → Type 0) (P : VarId → Object → Type 0) where
       assigned_variable : (low : ℕ) (c : Command) → Resolves low c → assigns v (effect c) ≡ true → (object : Object) × P v object
       assigned_variable low Skip written h = absurd cc
       assigned_variable low (Set target value) written h =
-          let known = reference_variable T P written.0.0 written.0.2 v written.0.1 (ap (λ (name : Reference). denotes v name.root) (sym written.0.3) ∙ h) in (known.0, known.2)
+          let known = reference_variable T P written.0.0 written.0.2 v written.0.1 (ap (λ (t : Target). denotes v t.root) (sym written.0.3) ∙ h) in (known.0, known.2)
       assigned_variable low (Then a b) written h = ⊎_elim (assigned_variable low a written.0) (assigned_variable low b written.1) (or_cases (assigns v (effect a)) (assigns v (effect b)) h)
       assigned_variable low (Choose place condition a b) written h =
           ⊎_elim (assigned_variable low a written.1) (assigned_variable low b written.2) (or_cases (assigns v (effect a)) (assigns v (effect b)) (sym (assigns_chosen v (leaves a) (reads_of condition) (effect a) (effect b) place) ∙ h))
@@ -293,7 +299,7 @@ module _ (T : Subtype → Type 0) (P : VarId → Object → Type 0) where
     mutual
       read_variable : (low : ℕ) (c : Command) → Resolves low c → reads v (effect c) ≡ true → (object : Object) × P v object
       read_variable low Skip written h = absurd cc
-      read_variable low (Set target value) written h = value_variable value written.1 h
+      read_variable low (Set target value) written h = value_variable value written.1 (ap (is_read v) (sym (assigned_reads target value written.0)) ∙ h)
       read_variable low (Then a b) written h = ⊎_elim (read_variable low a written.0) (read_variable low b written.1) (or_cases (reads v (effect a)) (reads v (effect b)) h)
       read_variable low (Choose place condition a b) written h =
           ⊎_elim (value_variable condition written.0)
@@ -366,7 +372,8 @@ module _ (p : Program) (T : Subtype → Type 0) (P : VarId → Object → Type 0
   mutual
     targets_have_modes : (low : ℕ) (c : Command) → Resolves T P low c → TargetsHaveTheirModes p c
     targets_have_modes low Skip written = tt
-    targets_have_modes low (Set target value) written = subst (HasItsMode p) (sym written.0.3) (has_its_mode written.0.0 written.0.2 written.0.1)
+    targets_have_modes low (Set target value) written =
+        subst (λ (t : Target). HasItsMode p (record { root = t.root; way = t.rest })) (sym written.0.3) (has_its_mode written.0.0 written.0.2 written.0.1)
     targets_have_modes low (Then a b) written = (targets_have_modes low a written.0, targets_have_modes low b written.1)
     targets_have_modes low (Choose place condition a b) written = (targets_have_modes low a written.1, targets_have_modes low b written.2)
     targets_have_modes low (Select place selector alternatives) written = all_have_modes low alternatives written.1
@@ -397,13 +404,16 @@ module _ (p : Program) (T : Subtype → Type 0) (P : VarId → Object → Type 0
   bounds_as_declared None written = All-from_recursion (IsAsDeclared p) [] tt
   bounds_as_declared (Some range) written = All-append (IsAsDeclared p) (names_read range.low) (names_read range.high) (read_as_declared range.low written.0) (read_as_declared range.high written.1)
 
-  target_as_declared : (target : Reference) → IsTarget T P target → IsAsDeclared p target.root
-  target_as_declared target written = subst (λ (r : Reference). IsAsDeclared p r.root) (sym written.3) (as_declared (resolved_reference written.0 written.1).root (root_holds T P written.0 written.2 written.1))
+  target_as_declared : (target : Target) → IsTarget T P target → IsAsDeclared p target.root
+  target_as_declared target written = subst (λ (t : Target). IsAsDeclared p t.root) (sym written.3) (as_declared (resolved_reference written.0 written.1).root (root_holds T P written.0 written.2 written.1))
+
+  way_as_declared : (target : Target) → IsTarget T P target → All (IsAsDeclared p) (names_on_way target.way)
+  way_as_declared target written = subst (λ (t : Target). All (IsAsDeclared p) (names_on_way t.way)) (sym written.3) (All-from_recursion (IsAsDeclared p) [] tt)
 
   mutual
     command_as_declared : (low : ℕ) (c : Command) → Resolves T P low c → AreAsDeclared p c
     command_as_declared low Skip written = tt
-    command_as_declared low (Set target value) written = (target_as_declared target written.0, read_as_declared value written.1)
+    command_as_declared low (Set target value) written = (target_as_declared target written.0, (way_as_declared target written.0, read_as_declared value written.1))
     command_as_declared low (Then a b) written = (command_as_declared low a written.0, command_as_declared low b written.1)
     command_as_declared low (Choose place condition a b) written = (read_as_declared condition written.0, (command_as_declared low a written.1, command_as_declared low b written.2))
     command_as_declared low (Select place selector alternatives) written = (read_as_declared selector written.0, alternatives_as_declared low alternatives written.1)
@@ -418,11 +428,52 @@ module _ (p : Program) (T : Subtype → Type 0) (P : VarId → Object → Type 0
     alternatives_as_declared low (Last choices a) written = command_as_declared low a written
     alternatives_as_declared low (When choices a rest) written = (command_as_declared low a written.0, alternatives_as_declared low rest written.1)
 
+  -- ---- parts, of which there are none
+
+  value_as_formed : (value : CoreExpr) → IsValue T P value → All (IsAsFormed p) (parts_in value)
+  value_as_formed value written =
+      let none = ap parts_in written.5 ∙ no_parts_in_context written.0 written.2 written.1 written.3 in
+      subst (λ parts. All (IsAsFormed p) parts) (sym none) (All-from_recursion (IsAsFormed p) [] tt)
+
+  way_as_formed : (target : Target) → IsTarget T P target → All (IsAsFormed p) (parts_on_way target.way)
+  way_as_formed target written = subst (λ (t : Target). All (IsAsFormed p) (parts_on_way t.way)) (sym written.3) (All-from_recursion (IsAsFormed p) [] tt)
+
+  bounds_as_formed : (bounds : Option CoreRange) → AreValues T P bounds → All (IsAsFormed p) (parts_in_bounds bounds)
+  bounds_as_formed None written = All-from_recursion (IsAsFormed p) [] tt
+  bounds_as_formed (Some range) written = All-append (IsAsFormed p) (parts_in range.low) (parts_in range.high) (value_as_formed range.low written.0) (value_as_formed range.high written.1)
+
+  mutual
+    command_as_formed : (low : ℕ) (c : Command) → Resolves T P low c → AreAsFormed p c
+    command_as_formed low Skip written = tt
+    command_as_formed low (Set target value) written = All-append (IsAsFormed p) (parts_on_way target.way) (parts_in value) (way_as_formed target written.0) (value_as_formed value written.1)
+    command_as_formed low (Then a b) written = (command_as_formed low a written.0, command_as_formed low b written.1)
+    command_as_formed low (Choose place condition a b) written = (value_as_formed condition written.0, (command_as_formed low a written.1, command_as_formed low b written.2))
+    command_as_formed low (Select place selector alternatives) written = (value_as_formed selector written.0, alternatives_as_formed low alternatives written.1)
+    command_as_formed low (Assertion kind place condition) written = value_as_formed condition written
+    command_as_formed low (Repeat Endless body) written = (All-from_recursion (IsAsFormed p) [] tt, command_as_formed low body written)
+    command_as_formed low (Leave place) written = tt
+    command_as_formed low (Repeat (Tested place condition) body) written = (value_as_formed condition written.0, command_as_formed low body written.1)
+    command_as_formed low (Repeat (Counted c) body) written = (bounds_as_formed c.bounds written.2, command_as_formed (c.parameter.0 + 1) body written.3)
+
+    alternatives_as_formed : (low : ℕ) (alternatives : Alternatives) → AllResolve T P low alternatives → AllAreAsFormed p alternatives
+    alternatives_as_formed low (Last choices a) written = command_as_formed low a written
+    alternatives_as_formed low (When choices a rest) written = (command_as_formed low a written.0, alternatives_as_formed low rest written.1)
+
+  -- ---- predicates
+
+  predicate_value : (regions : Regions) → AllByRecursion (HoldsIn T P) regions → (items : List CoreDerivesItem) (written : Option Predicate) (predicate : CorePredicate)
+      → option_map (resolved_predicate items regions) written ≡ Some predicate → IsValue T P predicate.condition
+  predicate_value regions all items None predicate is = absurd cc
+  predicate_value regions all items (Some w) predicate is =
+      (Of INTEGER.base, regions, items, w.condition, all, ap (λ (x : CorePredicate). x.condition) (let e : predicate ≡ resolved_predicate items regions w = cc in e))
+
+  predicate_as_formed : (regions : Regions) → AllByRecursion (HoldsIn T P) regions → (items : List CoreDerivesItem) (written : Option Predicate) (predicate : CorePredicate)
+      → option_map (resolved_predicate items regions) written ≡ Some predicate → All (IsAsFormed p) (parts_in predicate.condition)
+  predicate_as_formed regions all items written predicate is = value_as_formed predicate.condition (predicate_value regions all items written predicate is)
+
   predicate_as_declared : (regions : Regions) → AllByRecursion (HoldsIn T P) regions → (items : List CoreDerivesItem) (written : Option Predicate) (predicate : CorePredicate)
       → option_map (resolved_predicate items regions) written ≡ Some predicate → All (IsAsDeclared p) (names_read predicate.condition)
-  predicate_as_declared regions all items None predicate is = absurd cc
-  predicate_as_declared regions all items (Some w) predicate is =
-      read_as_declared predicate.condition (Of INTEGER.base, regions, items, w.condition, all, ap (λ (x : CorePredicate). x.condition) (let e : predicate ≡ resolved_predicate items regions w = cc in e))
+  predicate_as_declared regions all items written predicate is = read_as_declared predicate.condition (predicate_value regions all items written predicate is)
 
 -- ---- what is declared in a body
 
@@ -636,6 +687,9 @@ module _ (p : Program) (more : List TypeRow) (types : p.types ≡ standard_types
         loops_differ = loops_differ (HasRow more) Own 0 (commands sub.statements) its_commands;
         pre_names = predicate_as_declared p (HasRow more) FormalRow (λ v object h. h.1) annotations in_annotations [] s.pre;
         post_names = predicate_as_declared p (HasRow more) FormalRow (λ v object h. h.1) annotations in_annotations its_items s.post;
+        body_parts = command_as_formed p (HasRow more) Own own_row 0 (commands sub.statements) its_commands;
+        pre_parts = predicate_as_formed p (HasRow more) FormalRow (λ v object h. h.1) annotations in_annotations [] s.pre;
+        post_parts = predicate_as_formed p (HasRow more) FormalRow (λ v object h. h.1) annotations in_annotations its_items s.post;
       }
 
   -- ---- programs

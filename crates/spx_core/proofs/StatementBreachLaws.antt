@@ -7,7 +7,7 @@ use Rattle.spx_text.specs.declared.place.Place.{Place}
 use Rattle.spx_core.specs.declared.entity.Entity.{Entity}
 use Rattle.spx_core.specs.declared.entity.Entity.TheVariants as entity
 use Rattle.spx_core.specs.declared.entity.Subtype.{Subtype}
-use Rattle.spx_core.specs.declared.name.Reference.{Reference}
+use Rattle.spx_core.specs.declared.part.Target.{Target}
 use Rattle.spx_core.specs.declared.expression.CoreExpr.{CoreExpr}
 use Rattle.spx_core.specs.declared.statement.CoreChoice.{CoreChoice}
 use Rattle.spx_core.specs.declared.statement.CoreRange.{CoreRange}
@@ -21,29 +21,33 @@ use Rattle.spx_core.specs.declared.statement.CoreCount.{CoreCount}
 use Rattle.spx_core.specs.Commands.{Command, Skip, Set, Then, Choose, Select, Assertion, Repeat, Leave, Tested, Counted, Endless, Alternatives, Last, When, bodies_in, choices_in, has_others, has_others_last, listed, spans_of}
 use Rattle.spx_core.specs.HasType.{HasType}
 use Rattle.spx_core.specs.Extents.{extent}
-use Rattle.spx_core.specs.Judged.{Judged, ◌>>=◌, if_there, judged, keeps, named_target, operand_of, referred_target, referred_type}
+use Rattle.spx_core.specs.Judged.{Judged, ◌>>=◌, if_there, judged, keeps, operand_of, part_type, referred_target, referred_type}
 use Rattle.spx_core.specs.NameBreaches as broken
-use Rattle.spx_core.specs.NameBreaches.{BreaksBound, BreaksChoice, BreaksCommand, BreaksCount, HasBadChoices, IsBoundOf, IsTarget, assigned_type}
+use Rattle.spx_core.specs.NameBreaches.{BreaksBound, BreaksChoice, BreaksCommand, BreaksCount, HasBadChoices, IsBoundOf, assigned_type}
 use Rattle.spx_core.specs.Statements.{are_given_once, assignment, chosen, has_right_choices, judged_alternatives, judged_bounds, judged_choice, judged_choices, judged_command, judged_count, judged_heads, selected, static_at, test}
 use Rattle.spx_core.specs.Types.{are_apart, cover, has_numbers, is_of, is_ordered, is_same_type, lies_in}
 use Rattle.spx_core.proofs.Elements.{in_cases, in_first, in_none, in_rest}
-use Rattle.spx_core.proofs.Judgements.{bound, by_part, by_test, each_broken, joined, kept, ok_is, passes_at, some_is}
-use Rattle.spx_core.proofs.TypedLaws.{complete, sound}
-use Rattle.spx_core.proofs.NameBreachLaws.{At, condition_found, expr_found, no_condition, no_expr, no_target_reference, no_type_reference, reference_is, referred_is, same_type_named, target_is, target_reference_found, type_reference_found}
-use Rattle.spx_core.proofs.DeclarationBreachLaws.{one_typing, static_is, unstatic}
+use Rattle.spx_core.proofs.Judgements.{bound, by_part, by_test, each_broken, joined, kept, ok_is, passes_at}
+use Rattle.spx_core.proofs.TypedLaws.{sound}
+use Rattle.spx_core.proofs.NameBreachLaws.{At, condition_found, expr_found, no_condition, no_expr, no_type_reference, one_typing, referred_is, same_type_named, target_is, type_reference_found}
+use Rattle.spx_core.proofs.TargetBreachLaws.{no_bound, no_target, one_target, operand_found, operand_passes, target_breach_found, target_leads, way_leads}
+use Rattle.spx_core.proofs.DeclarationBreachLaws.{static_is, unstatic}
 use Rattle.spx_core.proofs.Callers.Choices.{covered, given_twice, none_twice, uncovered}
 use Rattle.spx_core.proofs.Callers.Alternatives.{choices_judged, once_given}
 
 -- ---- assignments
 
-assignment_found : (target : Reference) (value : CoreExpr) (b : Breach) → assignment target value ≡ Err b → At (BreaksCommand (Set target value)) b
+assignment_found : (target : Target) (value : CoreExpr) (b : Breach) → assignment target value ≡ Err b → At (BreaksCommand (Set target value)) b
 assignment_found target value b h =
     let Breaks = BreaksCommand (Set target value) in
-    by_part (referred_target target) _ b h (λ e. broken.target target value b.rule b.place (target_reference_found target b e)) (λ subtype is h.
+    by_part (referred_target target) _ b h (λ e. broken.target target value b.rule b.place (target_breach_found target b e)) (λ subtype is h.
     by_part (judged value) _ b h (λ e. broken.value target value b.rule b.place (expr_found value b e)) (λ t has h.
-    let o = target_is target.root.name.place target.root.entity subtype (reference_is IsTarget (named_target target.root) target subtype is).0 in
-    by_part (keeps N10 t.place (is_of subtype.base t.of)) _ b h (λ e. by_test Breaks N10 t.place (is_of subtype.base t.of) b e (broken.of_another_type target value o.0 subtype t o.1 o.2 (sound value t has))) (λ _ _ e.
-    by_test Breaks N12 t.place (lies_in (Of subtype.base) t.value) b e (broken.out_of_range target value o.0 subtype t o.1 o.2 (sound value t has)))))
+    let l = target_leads target subtype is in
+    let o = target_is target.root.name.place target.root.entity l.whole l.named in
+    let same = sym (way_leads target.root.name.place l.whole target.way subtype l.leads) in
+    by_part (keeps N10 t.place (is_of subtype.base t.of)) _ b h
+    (λ e. by_test Breaks N10 t.place (is_of subtype.base t.of) b e (λ no. broken.of_another_type target value o.0 l.whole t o.1 o.2 (sound value t has) (subst (λ (s : Subtype). is_of s.base t.of ≡ false) same no))) (λ _ _ e.
+    by_test Breaks N12 t.place (lies_in (Of subtype.base) t.value) b e (λ no. broken.out_of_range target value o.0 l.whole t o.1 o.2 (sound value t has) (subst (λ (s : Subtype). lies_in (Of s.base) t.value ≡ false) same no)))))
 
 -- ---- choices
 
@@ -124,13 +128,6 @@ selected_is selector of h =
 
 -- ---- loops that count
 
--- a bound
-operand_found : (subtype : Subtype) (e : CoreExpr) (t : Typing) (b : Breach) → HasType e t → operand_of subtype t ≡ Err b → At (BreaksBound subtype e) b
-operand_found subtype e t b d h =
-    let Breaks = BreaksBound subtype e in
-    by_part (keeps N10 t.place (is_of subtype.base t.of)) _ b h (λ k. by_test Breaks N10 t.place (is_of subtype.base t.of) b k (broken.of_another_type t d)) (λ _ _ k.
-    by_test Breaks N12 t.place (lies_in (Of subtype.base) t.value) b k (broken.out_of_type t d))
-
 bounds_found : (c : CoreCount) (subtype : Subtype) (range : CoreRange) (b : Breach) → c.bounds ≡ Some range → c.type_name.root.entity ≡ Some (entity.TypeName subtype) → judged_bounds subtype range ≡ Err b → At (BreaksCount c) b
 bounds_found c subtype range b written is h =
     by_part (judged range.low) _ b h (λ e. broken.low range subtype b.rule b.place written is (broken.itself b.rule b.place (expr_found range.low b e))) (λ l low h.
@@ -195,21 +192,15 @@ mutual
       (λ e. let w = choices_found of choices b e in inl (w.0, Contains-append_left (listed choices) (choices_in rest) w.0 w.1, w.2, w.3, w.4)) (λ _ _ h.
       by_part (judged_command a) (λ _. judged_alternatives of rest) b h (λ e. inr (a, in_first a (bodies_in rest), command_found a b e)) (λ _ _ e. later choices a rest of b (alternatives_found rest of b e)))
 
--- what a value of a type passes that breaks no rule
-operand_passes : (subtype : Subtype) (e : CoreExpr) (t : Typing) → HasType e t → (judged e >>= operand_of subtype) ≡ Ok tt → (is_of subtype.base t.of ≡ true) × (lies_in (Of subtype.base) t.value ≡ true)
-operand_passes subtype e t d ok =
-    let k = bound (keeps N10 t.place (is_of subtype.base t.of)) _ tt (sym (joined (operand_of subtype) (complete e t d)) ∙ ok) in
-    (kept N10 t.place _ k.1, kept N12 t.place _ k.2)
-
 -- what the value of an assignment passes that breaks no rule
-assigned_passes : (target : Reference) (value : CoreExpr) (e : Entity) (subtype : Subtype) (t : Typing) → target.root.entity ≡ Some e → assigned_type e ≡ Some subtype → HasType value t → assignment target value ≡ Ok tt
-    → (is_of subtype.base t.of ≡ true) × (lies_in (Of subtype.base) t.value ≡ true)
+assigned_passes : (target : Target) (value : CoreExpr) (e : Entity) (subtype : Subtype) (t : Typing) → target.root.entity ≡ Some e → assigned_type e ≡ Some subtype → HasType value t → assignment target value ≡ Ok tt
+    → (is_of (part_type subtype target.way).base t.of ≡ true) × (lies_in (Of (part_type subtype target.way).base) t.value ≡ true)
 assigned_passes target value e subtype t is its d ok =
     let o = bound (referred_target target) _ tt ok in
-    let x = target_is target.root.name.place target.root.entity o.0 (reference_is IsTarget (named_target target.root) target o.0 o.1).0 in
-    let one : x.0 ≡ e = some_is (sym x.1 ∙ is) in
-    let same : o.0 ≡ subtype = some_is (sym x.2 ∙ ap assigned_type one ∙ its) in
-    operand_passes subtype value t d (subst (λ (x : Subtype). (judged value >>= operand_of x) ≡ Ok tt) same o.2)
+    let l = target_leads target o.0 o.1 in
+    let led = way_leads target.root.name.place l.whole target.way o.0 l.leads in
+    let same : o.0 ≡ part_type subtype target.way = sym led ∙ ap (λ s. part_type s target.way) (one_target target.root l.whole e subtype l.named is its) in
+    operand_passes (part_type subtype target.way) value t d (subst (λ (x : Subtype). (judged value >>= operand_of x) ≡ Ok tt) same o.2)
 
 -- what a bound of a choice passes that breaks no rule
 record PassesChoice (of : ExprType) (t : Typing) : Type 0 where
@@ -258,11 +249,6 @@ bounds_pass c range subtype written is ok =
     let k = bound (operand_of subtype l.0) _ tt l.2 in
     (joined (operand_of subtype) l.1 ∙ k.1, k.2)
 
-no_bound : (subtype : Subtype) (e : CoreExpr) (rule : RuleName) (place : Place) → BreaksBound subtype e rule place → (judged e >>= operand_of subtype) ≡ Ok tt → ⊥
-no_bound subtype e _ _ (broken.itself rule place h) ok = let t = bound (judged e) _ tt ok in no_expr e rule place h t.0 t.1
-no_bound subtype e _ _ (broken.of_another_type t d fails) ok = both_ways _ fails (operand_passes subtype e t d ok).0
-no_bound subtype e _ _ (broken.out_of_type t d fails) ok = both_ways _ fails (operand_passes subtype e t d ok).1
-
 no_count : (c : CoreCount) (rule : RuleName) (place : Place) → BreaksCount c rule place → judged_count c ≡ Ok tt → ⊥
 no_count c _ _ (broken.declared_again again) ok = both_ways c.again (not-true c.again (kept N2 c.name.place _ (count_parts c ok).0)) again
 no_count c _ _ (broken.type_name rule place h) ok = let s = bound (referred_type c.type_name) _ tt (count_parts c ok).1 in no_type_reference c.type_name s.0 s.1 rule place h
@@ -301,7 +287,7 @@ selector_is at selector alternatives ok =
     record { typing = s.0; judges = s.1; ordered = s.2; rest = subst (λ of. judged_alternatives of alternatives ≡ Ok tt) (sym s.3) of.2 }
 
 pub no_command : (c : Command) (rule : RuleName) (place : Place) → BreaksCommand c rule place → judged_command c ≡ Ok tt → ⊥
-no_command _ _ _ (broken.target target value rule place h) ok = let o = bound (referred_target target) _ tt ok in no_target_reference target o.0 o.1 rule place h
+no_command _ _ _ (broken.target target value rule place h) ok = let o = bound (referred_target target) _ tt ok in no_target target o.0 o.1 rule place h
 no_command _ _ _ (broken.value target value rule place h) ok =
     let o = bound (referred_target target) _ tt ok in
     let t = bound (judged value) _ tt o.2 in
