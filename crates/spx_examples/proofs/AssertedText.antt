@@ -29,7 +29,7 @@ use Rattle.spx_core.specs.declared.program.Program.{Program}
 use Rattle.spx_core.specs.declared.rule.ExprType.TheVariants.{Of}
 use Rattle.spx_core.specs.Contexts.{in_context}
 use Rattle.spx_core.specs.Regions.{standard}
-use Rattle.spx_core.specs.Resolved.{expr_step, parameters_by_stmts, resolved, resolved_condition, resolved_in, resolved_stmt}
+use Rattle.spx_core.specs.Resolved.{expr_step, parameters_by_stmts, resolved, resolved_condition, resolved_in, resolved_stmt, target_at}
 use Rattle.spx_core.proofs.Callers.LoopParameters.{parameters-Assertion, parameters-Assignment}
 use Rattle.spx_examples.specs.Assertions.{is_next, is_positive, post_on, program_of}
 use Rattle.spx_examples.specs.AssertionText.{assert_bytes, assert_tokens, assert_units, asserted_bytes, asserted_tokens, asserted_units, next_written, noted_sub, noted_written, positive_written, procedure_with, tokens_with, units_with}
@@ -142,7 +142,7 @@ module _ (kind : AssertionKind) (column : ℕ) where
   resolved_noted = resolved_assertion items outer region 1 kind (place 7 8) (positive_written column) ∙ ap (λ e. (stmt.Assertion kind (place 7 8) e, 1)) resolved_positive
 
   no_parameters : parameters_by_stmts (step_resolved ∷ noted_resolved ∷ []) ≡ []
-  no_parameters = ap₂ (λ (a b : List Defining). a ++ (b ++ [])) (parameters-Assignment (x_named 6 4) (successor 6 9)) (parameters-Assertion kind (place 7 8) (is_positive 7 column))
+  no_parameters = ap₂ (λ (a b : List Defining). a ++ (b ++ [])) (parameters-Assignment (target_at (x_named 6 4)) (successor 6 9)) (parameters-Assertion kind (place 7 8) (is_positive 7 column))
 
   pub made : resolved (units_with (noted_written kind column)) ≡ program_of (noted_sub kind column)
   unfolding standard

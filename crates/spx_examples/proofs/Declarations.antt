@@ -35,7 +35,7 @@ use Rattle.spx_core.specs.Judged.{Judged, ◌>>=◌, breach_in, each, expr_step,
 use Rattle.spx_core.specs.Obeyed.{obeyed_post, obeyed_pre}
 use Rattle.spx_core.specs.Places.{place_in}
 use Rattle.spx_core.specs.Regions.{Region, Regions}
-use Rattle.spx_core.specs.Resolved.{Counts, after_formals, around_body, around_names, at_start, bounded, constant_of, counted, counted_sub, declared_by, declared_by_decls, declaring as declared_after, declaring_all, defining, defining_all, formal_names, integer_type, object_of, or_zero, own_types, params_of, resolved, resolved_decl, resolved_decls, resolved_expr, resolved_reference, resolved_static, resolved_sub, row_of, rows_by, rows_by_decls, standard_types, subtype_of, type_named, unit_name, value_in}
+use Rattle.spx_core.specs.Resolved.{Counts, after_formals, around_body, around_names, at_start, bounded, constant_of, counted, counted_sub, declared_by, declared_by_decls, declaring as declared_after, declaring_all, defining, defining_all, formal_names, integer_type, object_of, or_zero, own_types, params_of, resolved, resolved_decl, resolved_decls, resolved_expr, resolved_reference, resolved_static, resolved_sub, row_of, rows_by, rows_by_decls, standard_types, subtype_of, target_at, type_named, unit_name, value_in}
 use Rattle.spx_core.specs.Statements.{bound, declared_once, first_name_breach, judged_command, judged_decl, judged_end, judged_item, judged_name, judged_param, judged_predicate, static_between, static_number}
 use Rattle.spx_core.specs.Types.{has_numbers}
 use Rattle.spx_core.specs.Uses.{variable_of}
@@ -236,7 +236,7 @@ module _ (ds : List Decl) (target : Name) (value : Expr) where
 
   -- the assignment, where its names denote what they do after these declarations
   abbrev setting : Command
-  setting = Then (Set (resolved_reference around_set target) (resolved_expr (type_named around_set target) around_set value)) Skip
+  setting = Then (Set (target_at (resolved_reference around_set target)) (resolved_expr (type_named around_set target) around_set value)) Skip
 
   setting_is : commands (first ds set).statements ≡ setting
   setting_is =

@@ -18,6 +18,7 @@ use Rattle.spx_core.specs.Commands.{Command, Skip, Set, Then, Assertion, Repeat,
 use Rattle.spx_core.specs.Places.{place_of}
 use Rattle.spx_core.specs.Uses.{variable_of}
 use Rattle.spx_core.proofs.Callers.CommandForms.{command-Assertion, command-Assignment, command-For}
+use Rattle.spx_core.specs.Resolved.{target_at}
 use Rattle.spx_term.specs.declared.condition.CondKind.TheVariants as kind
 use Rattle.spx_term.specs.declared.term.Term.{Term, out-Term}
 use Rattle.spx_term.specs.declared.term.Term.TheBlock.{hidden-the_row-Term-0, shown-the_row-Term-0, the_depth}
@@ -39,15 +40,15 @@ use Rattle.spx_examples.proofs.Trees.{conditions_from, trees_are}
 -- ---- its statements
 
 turn_command : commands (add_two ∷ asserting ∷ []) ≡ turn
-turn_command = ap₂ (λ (a b : Command). Then a (Then b Skip)) (command-Assignment (named (s_at 9 7)) two_more) (command-Assertion assertion.Assert (place 10 11) s_is_twice_i)
+turn_command = ap₂ (λ (a b : Command). Then a (Then b Skip)) (command-Assignment (target_at (named (s_at 9 7))) two_more) (command-Assertion assertion.Assert (place 10 11) s_is_twice_i)
 
 pub commands_are : commands sub.statements ≡ double_command
 commands_are =
-    ap₂ (λ (a b : Command). Then a (Then b Skip)) (command-Assignment (named (s_at 7 4)) (number (pos 0) 7 9))
+    ap₂ (λ (a b : Command). Then a (Then b Skip)) (command-Assignment (target_at (named (s_at 7 4))) (number (pos 0) 7 9))
     (command-For counting (scheme.For count) (place 8 34) (add_two ∷ asserting ∷ []) closing count refl refl ∙ ap (Repeat (Counted count)) turn_command)
 
 module _ (target : CoreName) (e : CoreExpr) (rest leave : ℕ → Tree) (made : ℕ) where
-  set_is : walk p sub (Set (named target) e) rest leave made
+  set_is : walk p sub (Set (target_at (named target)) e) rest leave made
       ≡ checks_now p (now_term p) [] e (assigned p (place_now e) (variable_of target.entity) (term_now (now_term p) (now_term p) e) (rest made))
   set_is =
       checks_are p (now_term p) [] e _
@@ -67,7 +68,7 @@ sum = term.Infix sign.Add s_now (term.Number (pos 2))
 abbrev adding : Tree → Tree
 adding rest = check kind.Overflow (place 9 14) (in_integer sum) (check kind.Range (place 9 14) (in_integer sum) (Assign (now p s) sum rest))
 
-add_is : (rest leave : ℕ → Tree) (made : ℕ) → walk p sub (Set (named (s_at 9 7)) two_more) rest leave made ≡ adding (rest made)
+add_is : (rest leave : ℕ → Tree) (made : ℕ) → walk p sub (Set (target_at (named (s_at 9 7))) two_more) rest leave made ≡ adding (rest made)
 unfolding hidden-the_row-CoreExpr-0 hidden
 add_is rest leave made = set_is (s_at 9 7) two_more rest leave made
 

@@ -26,7 +26,7 @@ use Rattle.spx_core.specs.declared.statement.CoreScheme.TheVariants as scheme
 use Rattle.spx_core.specs.declared.statement.CoreStmt.{CoreStmt}
 use Rattle.spx_core.specs.declared.statement.CoreStmt.TheVariants as stmt
 use Rattle.spx_core.specs.Regions.{Region, Regions, standard}
-use Rattle.spx_core.specs.Resolved.{around_body, around_names, declared_by_count, declaring_all, parameters_by_stmts, resolved, resolved_count, resolved_stmt, resolved_stmts}
+use Rattle.spx_core.specs.Resolved.{around_body, around_names, declared_by_count, declaring_all, parameters_by_stmts, resolved, resolved_count, resolved_stmt, resolved_stmts, target_at}
 use Rattle.spx_core.proofs.Callers.LoopParameters.{parameters-Assertion, parameters-Assignment, parameters-For}
 use Rattle.spx_examples.specs.Doubling.{add_two, asserting, closing, count, counting, double, double_declared, double_program, n_formal, number, relation, s_at, s_formal, s_is_twice_i, set_zero, two_more}
 use Rattle.spx_examples.specs.DoublingText.{add_written, assert_written, bounds_written, count_written, counting_written, double_bytes, double_tokens, double_units, double_written, number_at, range_written, simple, sum_written, twice_written, value_at, zero_written}
@@ -175,13 +175,13 @@ count_is =
 zero_resolved : resolved_stmt items outer zero_written region 2 ≡ (set_zero, 2)
 zero_resolved =
     resolved_assignment items outer region 2 (simple (codes "S") 7 4) (number_at (pos 0) 7 9)
-    ∙ ap (λ (e : CoreExpr). (stmt.Assignment (named (s_at 7 4)) e, 2)) (met_is [] (region ∷ outer) (Of INTEGER.base) (number_at (pos 0) 7 9))
+    ∙ ap (λ (e : CoreExpr). (stmt.Assignment (target_at (named (s_at 7 4))) e, 2)) (met_is [] (region ∷ outer) (Of INTEGER.base) (number_at (pos 0) 7 9))
 
 add_resolved : resolved_stmt items outer add_written in_loop 3 ≡ (add_two, 3)
 unfolding hidden-the_row-Expr-0 hidden-the_row-CoreExpr-0 hidden
 add_resolved =
     resolved_assignment items outer in_loop 3 (simple (codes "S") 9 7) sum_written
-    ∙ ap (λ (e : CoreExpr). (stmt.Assignment (named (s_at 9 7)) e, 3)) (met_is [] (in_loop ∷ outer) (Of INTEGER.base) sum_written)
+    ∙ ap (λ (e : CoreExpr). (stmt.Assignment (target_at (named (s_at 9 7))) e, 3)) (met_is [] (in_loop ∷ outer) (Of INTEGER.base) sum_written)
 
 assert_resolved : resolved_stmt items outer assert_written in_loop 3 ≡ (asserting, 3)
 unfolding hidden-the_row-Expr-0 hidden-the_row-CoreExpr-0 hidden
@@ -206,11 +206,11 @@ loop_resolved =
 
 -- its parameter is the one of its body
 turn_parameters : parameters_by_stmts (add_two ∷ asserting ∷ []) ≡ []
-turn_parameters = ap₂ (λ (a b : List Defining). a ++ (b ++ [])) (parameters-Assignment (named (s_at 9 7)) two_more) (parameters-Assertion assertion.Assert (place 10 11) s_is_twice_i)
+turn_parameters = ap₂ (λ (a b : List Defining). a ++ (b ++ [])) (parameters-Assignment (target_at (named (s_at 9 7))) two_more) (parameters-Assertion assertion.Assert (place 10 11) s_is_twice_i)
 
 parameters : parameters_by_stmts (set_zero ∷ counting ∷ []) ≡ declared_by_count count ∷ []
 parameters =
-    ap₂ (λ (a b : List Defining). a ++ (b ++ [])) (parameters-Assignment (named (s_at 7 4)) (number (pos 0) 7 9))
+    ap₂ (λ (a b : List Defining). a ++ (b ++ [])) (parameters-Assignment (target_at (named (s_at 7 4))) (number (pos 0) 7 9))
     (parameters-For counting (scheme.For count) (place 8 34) (add_two ∷ asserting ∷ []) closing count refl refl ∙ ap (λ (ds : List Defining). declared_by_count count ∷ ds) turn_parameters)
 
 -- the program with these conditions

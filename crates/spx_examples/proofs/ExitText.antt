@@ -20,7 +20,7 @@ use Rattle.spx_core.specs.declared.statement.CoreStmt.{CoreStmt}
 use Rattle.spx_core.specs.declared.statement.CoreStmt.TheVariants as stmt
 use Rattle.spx_core.specs.Commands.{Command, Then, commands}
 use Rattle.spx_core.specs.Regions.{standard}
-use Rattle.spx_core.specs.Resolved.{parameters_by_stmts, resolved, resolved_stmt, resolved_stmts}
+use Rattle.spx_core.specs.Resolved.{parameters_by_stmts, resolved, resolved_stmt, resolved_stmts, target_at}
 use Rattle.spx_core.proofs.Callers.CommandForms.{command-Assignment, command-Endless, command-Exit}
 use Rattle.spx_core.proofs.Callers.LoopParameters.{parameters-Assignment, parameters-Endless, parameters-Exit}
 use Rattle.spx_examples.specs.Exits.{loop}
@@ -103,7 +103,7 @@ no_parameters : parameters_by_stmts (loop_resolved ∷ []) ≡ []
 no_parameters =
     in_one loop_resolved
     (parameters-Endless loop_resolved scheme.Endless (place 5 4) (exit_resolved ∷ step_resolved ∷ []) closing refl refl
-    ∙ ap₂ (λ (a b : List Defining). a ++ (b ++ [])) (parameters-Exit (place 6 7) (Some (below_hundred_at 6 17))) (parameters-Assignment (x_named 7 7) (successor 7 12)))
+    ∙ ap₂ (λ (a b : List Defining). a ++ (b ++ [])) (parameters-Exit (place 6 7) (Some (below_hundred_at 6 17))) (parameters-Assignment (target_at (x_named 7 7)) (successor 7 12)))
 
 pub made : resolved exit_units ≡ exit_program
 unfolding standard
@@ -115,4 +115,4 @@ pub command_is : commands exit_sub.statements ≡ only exit_command
 command_is =
     ap only
     (command-Endless loop_resolved scheme.Endless (place 5 4) (exit_resolved ∷ step_resolved ∷ []) closing refl refl
-    ∙ ap₂ (λ (first second : Command). loop (Then first (only second))) (command-Exit (place 6 7) (Some (below_hundred_at 6 17))) (command-Assignment (x_named 7 7) (successor 7 12)))
+    ∙ ap₂ (λ (first second : Command). loop (Then first (only second))) (command-Exit (place 6 7) (Some (below_hundred_at 6 17))) (command-Assignment (target_at (x_named 7 7)) (successor 7 12)))

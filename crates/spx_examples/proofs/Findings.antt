@@ -19,6 +19,7 @@ use Rattle.spx_core.specs.FlowRules.{body_effect, HasNoFlowFinding}
 use Rattle.spx_core.specs.Reads.{names_read, names_step}
 use Rattle.spx_core.specs.Uses.{variable_of}
 use Rattle.spx_core.proofs.Callers.Expressions.{fold-Name, fold-Number, fold-Infix}
+use Rattle.spx_core.specs.Resolved.{target_at}
 use Rattle.spx_examples.specs.Assertions.{checks_local, checks_import}
 use Rattle.spx_examples.specs.Branches.{arm}
 use Rattle.spx_examples.specs.Increment.{place, x, x_at, x_named, successor, step}
@@ -45,7 +46,7 @@ module _ (rest : List CoreStmt) where
   -- `target := value`, where the value reads these names
   giving : (target : CoreName) (value : CoreExpr) (names : List CoreName) → names_read value ≡ names → effects (gives target value ∷ rest) ≡ next (assign (variable_of target.entity) (filter_map read_of names) target.name.place) (effects rest)
   giving target value names are =
-      first_effect (gives target value) (Set (named target) value) (assignment_is (named target) value)
+      first_effect (gives target value) (Set (target_at (named target)) value) (assignment_is (named target) value)
       ∙ ap (λ names. next (assign (variable_of target.entity) (filter_map read_of names) target.name.place) (effects rest)) are
 
   giving_name : (target name : CoreName) → effects (gives target (Name name) ∷ rest) ≡ next (assign (variable_of target.entity) (filter_map read_of (name ∷ [])) target.name.place) (effects rest)
@@ -55,7 +56,7 @@ module _ (rest : List CoreStmt) where
   giving_number target n at = giving target (Number n at) [] (fold-Number names_step n at)
 
   stepping : effects (step ∷ rest) ≡ next (assign (Some x) ((place 6 9, x) ∷ []) (place 6 4)) (effects rest)
-  stepping = first_effect step (Set (x_named 6 4) (successor 6 9)) (assignment_is (x_named 6 4) (successor 6 9)) ∙ ap (λ e. next e (effects rest)) (step_effect 6 4 9)
+  stepping = first_effect step (Set (target_at (x_named 6 4)) (successor 6 9)) (assignment_is (x_named 6 4) (successor 6 9)) ∙ ap (λ e. next e (effects rest)) (step_effect 6 4 9)
 
   -- an `if` whose condition reads these names
   choosing : (s : CoreStmt) (at : Place) (condition : CoreExpr) (a b : Command) (names : List CoreName) → commands (s ∷ []) ≡ Then (Choose at condition a b) Skip → names_read condition ≡ names → leaves a ≡ false

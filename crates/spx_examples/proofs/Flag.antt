@@ -17,6 +17,7 @@ use Rattle.spx_core.specs.Ways.{Free, Goes}
 use Rattle.spx_core.specs.FlowRules.{body_effect, MayBeUnset, left}
 use Rattle.spx_core.specs.Places.{place_of}
 use Rattle.spx_core.proofs.Callers.Expressions.{fold-Name, fold-Number, fold-Infix}
+use Rattle.spx_core.specs.Resolved.{target_at}
 use Rattle.spx_term.specs.declared.value.Value.{Value}
 use Rattle.spx_term.specs.declared.value.Value.TheVariants as value
 use Rattle.spx_term.specs.Meaning.{as_truth, value_of_op}
@@ -35,7 +36,7 @@ use Rattle.spx_examples.proofs.Statements.{assignment_is, if_is, operating, and_
 
 -- where X is positive, Y := 1
 abbrev branch_command : Command
-branch_command = Choose (place 5 4) positive (Then (Set (named (y_at 6 7)) one) Skip) Skip
+branch_command = Choose (place 5 4) positive (Then (Set (target_at (named (y_at 6 7))) one) Skip) Skip
 
 pub flag_command : commands (branch ∷ []) ≡ Then branch_command Skip
 flag_command = if_is (place 5 4) positive (setting ∷ []) closing ∙ ap (λ body. Then (Choose (place 5 4) positive body Skip) Skip) (assignment_is (named (y_at 6 7)) one)

@@ -16,7 +16,7 @@ use Rattle.spx_core.specs.declared.program.Program.{Program}
 use Rattle.spx_core.specs.declared.rule.ExprType.TheVariants.{Of}
 use Rattle.spx_core.specs.Contexts.{in_context}
 use Rattle.spx_core.specs.Regions.{Region, Regions, denoted, standard}
-use Rattle.spx_core.specs.Resolved.{around_body, declaring, expr_step, parameters_by_stmts, resolved, resolved_condition}
+use Rattle.spx_core.specs.Resolved.{around_body, declaring, expr_step, parameters_by_stmts, resolved, resolved_condition, target_at}
 use Rattle.spx_core.proofs.Callers.LoopParameters.{parameters-Assignment}
 use Rattle.spx_examples.specs.Increment.{place, word, x_written, last_written, below_written, inc_written, inc_units, x, object, x_named, x_declared, inc_declared, below_last, successor, step, relation, inc, increment}
 use Rattle.spx_examples.specs.Refused.{units_without_pre, increment_without_pre}
@@ -53,7 +53,7 @@ abbrev with_pre : CoreExpr → Program
 with_pre condition = of_sub (record inc { pre = Some (record { place = place 3 5; condition = condition }) })
 
 no_parameters : parameters_by_stmts (step ∷ []) ≡ []
-no_parameters = in_one step (parameters-Assignment (x_named 6 4) (successor 6 9))
+no_parameters = in_one step (parameters-Assignment (target_at (x_named 6 4)) (successor 6 9))
 
 pub increment_is_resolved : resolved inc_units ≡ increment
 unfolding standard

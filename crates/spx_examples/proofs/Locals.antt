@@ -17,6 +17,7 @@ use Rattle.spx_core.specs.Judged as rules
 use Rattle.spx_core.specs.Places.{place_in}
 use Rattle.spx_core.proofs.Callers.Expressions.{fold-Name, fold-Number, fold-Parenthesized, fold-Prefix}
 use Rattle.spx_core.proofs.Callers.CommandForms.{command-Assignment}
+use Rattle.spx_core.specs.Resolved.{target_at}
 use Rattle.spx_term.specs.declared.value.Value.{Value}
 use Rattle.spx_term.specs.declared.value.Value.TheVariants as value
 use Rattle.spx_term.specs.Meaning.{as_truth, value_of_op, value_of_prefix}
@@ -138,7 +139,7 @@ sum_before_local n w =
 -- ---- one statement after the other
 
 twice_command : commands twice ≡ Then (step_command 6 4 9) (Then (step_command 6 16 21) Skip)
-twice_command = ap₂ Then (command-Assignment (x_named 6 4) (successor 6 9)) (assignment_is (x_named 6 16) (successor 6 21))
+twice_command = ap₂ Then (command-Assignment (target_at (x_named 6 4)) (successor 6 9)) (assignment_is (x_named 6 16) (successor 6 21))
 
 -- X := X + 1 at this place, whose X is read at the other
 abbrev stepped : Frame → Store → Place → Place → Outcome

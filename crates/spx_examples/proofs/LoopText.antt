@@ -19,7 +19,7 @@ use Rattle.spx_core.specs.declared.statement.CoreStmt.{CoreStmt}
 use Rattle.spx_core.specs.declared.statement.CoreStmt.TheVariants as stmt
 use Rattle.spx_core.specs.Commands.{Command, Repeat, Tested, commands}
 use Rattle.spx_core.specs.Regions.{standard}
-use Rattle.spx_core.specs.Resolved.{parameters_by_stmts, resolved, resolved_stmt}
+use Rattle.spx_core.specs.Resolved.{parameters_by_stmts, resolved, resolved_stmt, target_at}
 use Rattle.spx_core.proofs.Callers.LoopParameters.{parameters-Assignment, parameters-While}
 use Rattle.spx_examples.specs.Increment.{place, x_written, successor_written, relation, x_named, successor}
 use Rattle.spx_examples.specs.Loops.{only}
@@ -90,7 +90,7 @@ no_parameters : parameters_by_stmts (loop_resolved ∷ []) ≡ []
 no_parameters =
     in_one loop_resolved
     (parameters-While loop_resolved (scheme.While (place 5 4) (below_hundred_at 5 10)) (place 5 18) (step_resolved ∷ []) closing (place 5 4) (below_hundred_at 5 10) refl refl
-    ∙ in_one step_resolved (parameters-Assignment (x_named 6 7) (successor 6 12)))
+    ∙ in_one step_resolved (parameters-Assignment (target_at (x_named 6 7)) (successor 6 12)))
 
 pub made : resolved loop_units ≡ loop_program
 unfolding standard

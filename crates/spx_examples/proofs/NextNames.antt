@@ -9,7 +9,7 @@ use Rattle.spx_core.specs.declared.statement.CoreArm.{fold-roll-CoreArm}
 use Rattle.spx_core.specs.declared.statement.CoreStmt.{CoreStmt}
 use Rattle.spx_core.specs.declared.statement.CoreStmt.TheVariants as stmt
 use Rattle.spx_core.specs.Regions.{Region, Regions, denoted, standard}
-use Rattle.spx_core.specs.Resolved.{around_body, declaring, parameters_by_stmts, parameters_in_alternative, parameters_in_arm, parameters_step, resolved, resolved_stmt}
+use Rattle.spx_core.specs.Resolved.{around_body, declaring, parameters_by_stmts, parameters_in_alternative, parameters_in_arm, parameters_step, resolved, resolved_stmt, target_at}
 use Rattle.spx_core.proofs.Callers.LoopParameters.{parameters-Assignment, parameters-If}
 use Rattle.spx_examples.specs.Branches.{arm}
 use Rattle.spx_examples.specs.Increment.{place, x, object, x_named, successor}
@@ -42,7 +42,7 @@ no_parameters =
     (parameters-If branch (arm (place 5 4) (below_hundred_at 5 7) (step ∷ []) ∷ []) None closing refl refl
     ∙ ap (λ ds. ds ++ [])
     (fold-roll-CoreArm (List Defining) (List Defining) (List Defining) parameters_step parameters_in_alternative parameters_in_arm (record { place = place 5 4; condition = below_hundred_at 5 7; body = step ∷ [] })
-    ∙ in_one step (parameters-Assignment (x_named 6 7) (successor 6 12))))
+    ∙ in_one step (parameters-Assignment (target_at (x_named 6 7)) (successor 6 12))))
 
 pub next_is_resolved : resolved next_units ≡ next_program
 unfolding standard

@@ -36,7 +36,7 @@ use Rattle.spx_core.specs.declared.rule.ExprType.TheVariants.{Of}
 use Rattle.spx_core.specs.declared.subprogram.Sub.{Sub}
 use Rattle.spx_core.specs.Contexts.{in_context}
 use Rattle.spx_core.specs.Regions.{Region, Regions, denoted}
-use Rattle.spx_core.specs.Resolved.{Part, alternative_step, arm_step, at_start, declared_by_count, declaring_all, expr_step, formal_names, local_variables, parameters_by, parameters_by_stmts, positions, program_of, resolved, resolved_alternative, resolved_arm, resolved_condition, resolved_count, resolved_expr, resolved_in, resolved_reference, resolved_stmt, resolved_stmts, resolved_sub, stmt_step, type_named, unit_name, var_of}
+use Rattle.spx_core.specs.Resolved.{Part, alternative_step, arm_step, at_start, declared_by_count, declaring_all, expr_step, formal_names, local_variables, parameters_by, parameters_by_stmts, positions, program_of, resolved, resolved_alternative, resolved_arm, resolved_condition, resolved_count, resolved_expr, resolved_in, resolved_reference, resolved_stmt, resolved_stmts, resolved_sub, stmt_step, target_at, type_named, unit_name, var_of}
 use Rattle.spx_examples.specs.Increment.{place, word, x_written, successor_written, x, object, x_at, x_named, successor}
 use Rattle.spx_examples.specs.Branches.{arm}
 use Rattle.spx_examples.specs.Next.{below_hundred_at, below_written}
@@ -65,7 +65,7 @@ module _ (items : List CoreDerivesItem) (outer : Regions) (region : Region) (pos
   here part = part region position
 
   pub resolved_assignment : (target : Name) (value : Expr)
-      → here (resolved_stmt items outer (written_stmt.Assignment target value)) ≡ (stmt.Assignment (resolved_reference around target) (resolved_expr (type_named around target) around value), position)
+      → here (resolved_stmt items outer (written_stmt.Assignment target value)) ≡ (stmt.Assignment (target_at (resolved_reference around target)) (resolved_expr (type_named around target) around value), position)
   unfolding roll-Stmt roll
   resolved_assignment target value = ap here (stmt_of items outer (Stmt-F.Assignment target value))
 
@@ -141,10 +141,10 @@ module _ (around : Regions) where
 
 -- `X := X + 1`
 pub resolved_step : (items : List CoreDerivesItem) (outer : Regions) (region : Region) (position : ℕ) → XDenotes (region ∷ outer) → (line target value : ℕ)
-    → resolved_stmt items outer (written_stmt.Assignment (x_written line target) (successor_written line value)) region position ≡ (stmt.Assignment (x_named line target) (successor line value), position)
+    → resolved_stmt items outer (written_stmt.Assignment (x_written line target) (successor_written line value)) region position ≡ (stmt.Assignment (target_at (x_named line target)) (successor line value), position)
 resolved_step items outer region position is line target value =
     resolved_assignment items outer region position (x_written line target) (successor_written line value)
-    ∙ ap₂ (λ (e : Option Entity) v. (stmt.Assignment (record { root = record { name = word (codes "X") line target; entity = e }; way = [] }) v, position)) is (resolved_successor (region ∷ outer) is (type_named (region ∷ outer) (x_written line target)) line value)
+    ∙ ap₂ (λ (e : Option Entity) v. (stmt.Assignment (target_at (record { root = record { name = word (codes "X") line target; entity = e }; way = [] })) v, position)) is (resolved_successor (region ∷ outer) is (type_named (region ∷ outer) (x_written line target)) line value)
 
 -- ---- programs
 

@@ -34,6 +34,7 @@ use Rattle.spx_core.specs.Judged.{application, expr_step, judged, typing}
 use Rattle.spx_core.specs.Places.{place_of}
 use Rattle.spx_core.proofs.Callers.CommandForms.{command-Assertion, command-Assignment}
 use Rattle.spx_core.proofs.Callers.Expressions.{fold-Name, fold-Number, fold-Applied, fold-Prefix, fold-Infix, fold-InType, fold-InRange}
+use Rattle.spx_core.specs.Resolved.{target_at}
 use Rattle.spx_term.specs.declared.term.Sort.TheVariants.{Integer}
 use Rattle.spx_term.specs.declared.term.Symbol.TheVariants as symbol
 use Rattle.spx_term.specs.declared.term.Term.{Term}
@@ -395,7 +396,7 @@ unset_is_large =
 -- ---- in a check after an assignment
 
 after_step : commands checking_power.statements ≡ Then (step_command 6 4 9) (Then (Assertion Check (place 7 8) (positive_power_at 7 14)) Skip)
-after_step = ap₂ (λ a b. Then a (Then b Skip)) (command-Assignment (x_named 6 4) (successor 6 9)) (command-Assertion Check (place 7 8) (positive_power_at 7 14))
+after_step = ap₂ (λ a b. Then a (Then b Skip)) (command-Assignment (target_at (x_named 6 4)) (successor 6 9)) (command-Assertion Check (place 7 8) (positive_power_at 7 14))
 
 module _ (n : ℕ) (m : ℤ) where
   abbrev checking_frame : Frame

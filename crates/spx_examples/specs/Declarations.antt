@@ -39,7 +39,7 @@ use Rattle.spx_core.specs.declared.subprogram.Sub.{Sub}
 use Rattle.spx_core.specs.Commands.{commands}
 use Rattle.spx_core.specs.Obeyed.{first_rule_breach}
 use Rattle.spx_core.specs.Regions.{denoted}
-use Rattle.spx_core.specs.Resolved.{around_body, at_start, declaring_all, formal_names, local_names, resolved, resolved_sub, standard_types, unit_name}
+use Rattle.spx_core.specs.Resolved.{around_body, at_start, declaring_all, formal_names, local_names, resolved, resolved_sub, standard_types, target_at, unit_name}
 use Rattle.spx_core.specs.Statements.{first_name_breach}
 use Rattle.spx_meaning.specs.Frames.{around}
 use Rattle.spx_meaning.specs.Runs.{Outcome, run}
@@ -230,7 +230,7 @@ local name subtype = record { name = name; kind = Local; type_id = subtype.id }
 
 -- in this program the assignment ends so, from this store
 abbrev pub Assigned : Program → Store → CoreName → CoreExpr → Outcome → Type 0
-Assigned p s target value outcome = (sub : Sub) (entry : Store) (bound : ℕ) → run (around p sub entry) bound s (commands (Set (named target) value ∷ [])) ≡ outcome
+Assigned p s target value outcome = (sub : Sub) (entry : Store) (bound : ℕ) → run (around p sub entry) bound s (commands (Set (target_at (named target)) value ∷ [])) ≡ outcome
 
 -- A and B, of the type T
 abbrev pub t_program : Program

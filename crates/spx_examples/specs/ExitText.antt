@@ -25,6 +25,7 @@ use Rattle.spx_core.specs.declared.statement.CoreStmt.{CoreStmt}
 use Rattle.spx_core.specs.declared.statement.CoreStmt.TheVariants as stmt
 use Rattle.spx_core.specs.declared.subprogram.Sub.{Sub}
 use Rattle.spx_core.specs.Commands.{Command, Then, exit_where}
+use Rattle.spx_core.specs.Resolved.{target_at}
 use Rattle.spx_examples.specs.Assertions.{doing, program_of}
 use Rattle.spx_examples.specs.Example.{in_code}
 use Rattle.spx_examples.specs.Exits.{loop}
@@ -111,7 +112,7 @@ abbrev pub exit_resolved : CoreStmt
 exit_resolved = stmt.Exit (place 6 7) (Some (below_hundred_at 6 17))
 
 abbrev pub step_resolved : CoreStmt
-step_resolved = stmt.Assignment (x_named 7 7) (successor 7 12)
+step_resolved = stmt.Assignment (target_at (x_named 7 7)) (successor 7 12)
 
 abbrev pub loop_resolved : CoreStmt
 loop_resolved = stmt.Loop scheme.Endless (place 5 4) (exit_resolved ∷ step_resolved ∷ []) closing

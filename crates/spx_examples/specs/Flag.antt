@@ -31,6 +31,7 @@ use Rattle.spx_core.specs.declared.dependency.CoreDerivesItem.{CoreDerivesItem}
 use Rattle.spx_core.specs.declared.subprogram.CoreParam.{CoreParam}
 use Rattle.spx_core.specs.declared.subprogram.Sub.{Sub}
 use Rattle.spx_core.specs.Effects.{Effect, nothing, assign, next, choose}
+use Rattle.spx_core.specs.Resolved.{target_at}
 use Rattle.spx_examples.specs.Branches.{arm}
 use Rattle.spx_examples.specs.Increment.{place, word, x, integer_at, inc_id, increment}
 
@@ -76,7 +77,7 @@ one = expr.Number (pos 1) (place 6 12)
 
 -- `Y := 1`
 abbrev pub setting : CoreStmt
-setting = stmt.Assignment (named (y_at 6 7)) one
+setting = stmt.Assignment (target_at (named (y_at 6 7))) one
 
 -- `end if`
 abbrev pub closing : Closing

@@ -20,7 +20,7 @@ use Rattle.spx_core.specs.declared.entity.TheConstants.{INTEGER, INTEGER_FIRST, 
 use Rattle.spx_core.specs.declared.entity.Object.{Object}
 use Rattle.spx_core.specs.declared.name.Defining.{Defining}
 use Rattle.spx_core.specs.declared.name.Reference.{Reference}
-use Rattle.spx_core.specs.Resolved.{standard_types}
+use Rattle.spx_core.specs.Resolved.{standard_types, target_at}
 use Rattle.spx_core.specs.declared.entity.VarKind.TheVariants.{Formal}
 use Rattle.spx_core.specs.declared.entity.VarId.{VarId}
 use Rattle.spx_core.specs.declared.entity.SubId.{SubId}
@@ -158,7 +158,7 @@ successor line column = expr.Infix op.Add (place line (column + 2)) (expr.Name (
 
 -- `X := X + 1`
 abbrev pub step : CoreStmt
-step = stmt.Assignment (x_named 6 4) (successor 6 9)
+step = stmt.Assignment (target_at (x_named 6 4)) (successor 6 9)
 
 -- the procedure, with its annotations
 abbrev pub inc : Sub

@@ -35,6 +35,7 @@ use Rattle.spx_core.specs.declared.dependency.CoreDerivesItem.{CoreDerivesItem}
 use Rattle.spx_core.specs.declared.subprogram.CoreParam.{CoreParam}
 use Rattle.spx_core.specs.declared.subprogram.Sub.{Sub}
 use Rattle.spx_core.specs.Effects.{Effect, nothing, assign, next, choose}
+use Rattle.spx_core.specs.Resolved.{target_at}
 use Rattle.spx_term.specs.declared.condition.CondKind.TheVariants.{Overflow, Range}
 use Rattle.spx_term.specs.declared.condition.Condition.{Condition}
 use Rattle.spx_term.specs.declared.path.PathStep.{PathStep}
@@ -121,7 +122,7 @@ below_hundred = below_hundred_at 5 7
 
 -- `X := X + 1`
 abbrev pub step : CoreStmt
-step = stmt.Assignment (x_named 6 7) (successor 6 12)
+step = stmt.Assignment (target_at (x_named 6 7)) (successor 6 12)
 
 -- `if X < 100 then X := X + 1; end if`
 abbrev pub branch : CoreStmt

@@ -23,6 +23,7 @@ use Rattle.spx_core.specs.declared.statement.CoreStmt.TheVariants as stmt
 use Rattle.spx_core.specs.declared.subprogram.Sub.{Sub}
 use Rattle.spx_core.specs.Commands.{commands}
 use Rattle.spx_core.specs.Statements.{first_name_breach}
+use Rattle.spx_core.specs.Resolved.{target_at}
 use Rattle.spx_meaning.specs.Frames.{around}
 use Rattle.spx_meaning.specs.Runs.{Outcome, run}
 use Rattle.spx_meaning.specs.Stores.{Store}
@@ -103,7 +104,7 @@ choices_to m n = record { low = literal_at m; high = Some (literal_at n); span =
 
 -- `A := ` the literal
 abbrev pub giving : ℤ → List CoreStmt
-giving n = stmt.Assignment (named (a_at color 1)) (literal_at n) ∷ []
+giving n = stmt.Assignment (target_at (named (a_at color 1))) (literal_at n) ∷ []
 
 -- `case A`, with `A := Blue` for the first choices and `A := Green` for the second
 abbrev pub choosing : (first second : Option (List CoreChoice)) → CoreStmt

@@ -18,7 +18,7 @@ ghost use Rattle.spx_core.specs.declared.statement.CoreScheme.TheVariants as sch
 ghost use Rattle.spx_core.specs.declared.statement.CoreStmt.TheVariants as stmt;
 ghost use Rattle.spx_core.specs.Contexts.{in_context};
 ghost use Rattle.spx_core.specs.Judged.{judged, typing};
-ghost use Rattle.spx_core.specs.Resolved.{resolved_count};
+ghost use Rattle.spx_core.specs.Resolved.{resolved_count, target_at};
 ghost use Rattle.spx_term.specs.declared.condition.CondKind.TheVariants as kind;
 ghost use Rattle.spx_term.specs.declared.term.Term.{Term};
 ghost use Rattle.spx_term.specs.declared.term.Term.TheVariants as term;
@@ -165,10 +165,10 @@ pub fn a_power_is_computed_in_its_type()
 /// it does beside X.
 #[tactic(auto, using(crate::proofs::Declarations::breach_is), unfolding(spx_core::specs::Regions::standard, spx_num::specs::Widths::fits))]
 pub fn each_place_gives_a_type()
-    ensures target { Resolves (written_stmt.Assignment (name_written (codes "V") 1) (power_written (pos 2) 6)) (stmt.Assignment (named (v_named 1)) (power_of big (pos 2) 6)) }
-    ensures integer_target { Resolves (written_stmt.Assignment (name_written (codes "N") 1) (power_written (pos 2) 6)) (stmt.Assignment (named (n_named 1)) (power_of INTEGER (pos 2) 6)) }
-    ensures constant_target { Resolves (written_stmt.Assignment (name_written (codes "C") 1) (power_written (pos 2) 6)) (stmt.Assignment (named (c_named 1)) (power_of big (pos 2) 6)) }
-    ensures unknown_target { Resolves (written_stmt.Assignment (name_written (codes "Y") 1) (power_written (pos 2) 6)) (stmt.Assignment (named (unknown_named 1)) (power (pos 2) 6)) }
+    ensures target { Resolves (written_stmt.Assignment (name_written (codes "V") 1) (power_written (pos 2) 6)) (stmt.Assignment (target_at (named (v_named 1))) (power_of big (pos 2) 6)) }
+    ensures integer_target { Resolves (written_stmt.Assignment (name_written (codes "N") 1) (power_written (pos 2) 6)) (stmt.Assignment (target_at (named (n_named 1))) (power_of INTEGER (pos 2) 6)) }
+    ensures constant_target { Resolves (written_stmt.Assignment (name_written (codes "C") 1) (power_written (pos 2) 6)) (stmt.Assignment (target_at (named (c_named 1))) (power_of big (pos 2) 6)) }
+    ensures unknown_target { Resolves (written_stmt.Assignment (name_written (codes "Y") 1) (power_written (pos 2) 6)) (stmt.Assignment (target_at (named (unknown_named 1))) (power (pos 2) 6)) }
     ensures bounds { (resolved_count scope [] 0 count_written).bounds ≡ Some (record { low = number_at (pos 1) 20; high = power_of big (pos 2) 25 }) }
     ensures arm { Resolves (written_stmt.If (record { place = place 1 1; condition = power_written (pos 2) 4; body = [] } ∷ []) None closing)
         (stmt.If (record { place = place 1 1; condition = power_of INTEGER (pos 2) 4; body = [] } ∷ []) None closing) }

@@ -6,7 +6,7 @@ use Rattle.spx_core.specs.declared.expression.CoreExpr.{CoreExpr}
 use Rattle.spx_core.specs.declared.rule.ExprType.TheVariants.{Of, Universal}
 use Rattle.spx_core.specs.declared.statement.CoreScheme.TheVariants as scheme
 use Rattle.spx_core.specs.declared.statement.CoreStmt.TheVariants as stmt
-use Rattle.spx_core.specs.Resolved.{around_names}
+use Rattle.spx_core.specs.Resolved.{around_names, target_at}
 use Rattle.spx_examples.specs.Branches.{arm}
 use Rattle.spx_examples.specs.Declarations.{number_in}
 use Rattle.spx_examples.specs.Flag.{named}
@@ -19,22 +19,22 @@ use Rattle.spx_examples.proofs.context_laws.each_place_gives_a_type.Goals as goa
 pub returns-clause-target : goal.returns-clause-target
 returns-clause-target c =
     resolved_assignment [] scope [] 0 (name_written (codes "V") 1) (power_written (pos 2) 6)
-    ∙ ap (λ (e : CoreExpr). (stmt.Assignment (named (v_named 1)) e, 0)) (met_is [] ([] ∷ scope) (Of big.base) (power_written (pos 2) 6))
+    ∙ ap (λ (e : CoreExpr). (stmt.Assignment (target_at (named (v_named 1))) e, 0)) (met_is [] ([] ∷ scope) (Of big.base) (power_written (pos 2) 6))
 
 pub returns-clause-integer_target : goal.returns-clause-integer_target
 returns-clause-integer_target c =
     resolved_assignment [] scope [] 0 (name_written (codes "N") 1) (power_written (pos 2) 6)
-    ∙ ap (λ (e : CoreExpr). (stmt.Assignment (named (n_named 1)) e, 0)) (met_is [] ([] ∷ scope) (Of INTEGER.base) (power_written (pos 2) 6))
+    ∙ ap (λ (e : CoreExpr). (stmt.Assignment (target_at (named (n_named 1))) e, 0)) (met_is [] ([] ∷ scope) (Of INTEGER.base) (power_written (pos 2) 6))
 
 pub returns-clause-constant_target : goal.returns-clause-constant_target
 returns-clause-constant_target c =
     resolved_assignment [] scope [] 0 (name_written (codes "C") 1) (power_written (pos 2) 6)
-    ∙ ap (λ (e : CoreExpr). (stmt.Assignment (named (c_named 1)) e, 0)) (met_is [] ([] ∷ scope) (Of big.base) (power_written (pos 2) 6))
+    ∙ ap (λ (e : CoreExpr). (stmt.Assignment (target_at (named (c_named 1))) e, 0)) (met_is [] ([] ∷ scope) (Of big.base) (power_written (pos 2) 6))
 
 pub returns-clause-unknown_target : goal.returns-clause-unknown_target
 returns-clause-unknown_target c =
     resolved_assignment [] scope [] 0 (name_written (codes "Y") 1) (power_written (pos 2) 6)
-    ∙ ap (λ (e : CoreExpr). (stmt.Assignment (named (unknown_named 1)) e, 0)) (met_is [] ([] ∷ scope) Universal (power_written (pos 2) 6))
+    ∙ ap (λ (e : CoreExpr). (stmt.Assignment (target_at (named (unknown_named 1))) e, 0)) (met_is [] ([] ∷ scope) Universal (power_written (pos 2) 6))
 
 pub returns-clause-bounds : goal.returns-clause-bounds
 returns-clause-bounds c =
