@@ -2,12 +2,17 @@
 use Rattle.std.specs.Prelude.{ℕ, suc, List, [], ◌∷◌, ◌++◌, map, flat_map, Option, Some, None, codes}
 use Rattle.std.specs.Fmt.{decimal}
 use Rattle.spx_core.specs.declared.program.Program.{Program}
+use Rattle.spx_core.specs.declared.program.Field.{Field}
+use Rattle.spx_core.specs.declared.program.TypeForm.{TypeForm}
+use Rattle.spx_core.specs.declared.program.TypeForm.TheVariants.{Scalar, Array, Record}
+use Rattle.spx_core.specs.declared.program.TypeRow.{TypeRow}
 use Rattle.spx_core.specs.declared.program.Var.{Var}
 use Rattle.spx_core.specs.declared.subprogram.Sub.{Sub}
 use Rattle.spx_core.specs.Bodies.{bodies_of}
 use Rattle.spx_term.specs.declared.condition.Condition.{Condition}
 use Rattle.spx_term.specs.declared.term.Term.{Term}
 use Rattle.spx_term.specs.declared.printing.Names.{Names}
+use Rattle.spx_term.specs.declared.printing.TypeNames.{TypeNames}
 use Rattle.spx_term.specs.Printing.{text_of}
 use Rattle.spx_paths.specs.Conditions.{conditions_of}
 use Rattle.spx_findings.specs.Findings.{kind_text}
@@ -17,9 +22,19 @@ use Rattle.spx_report.specs.Report.{spot_text}
 abbrev pub declared_names : Program → List (List ℕ)
 declared_names p = map (λ (var : Var). var.name) p.vars
 
--- the names that its terms are printed with; it has no composite type
+-- the names of the fields of a type, which only a record type has
+abbrev pub field_names : TypeForm → List (List ℕ)
+field_names Scalar = []
+field_names (Array index element) = []
+field_names (Record fields) = map (λ (field : Field). field.name) fields
+
+-- the names of a type and of its fields
+abbrev pub type_names : TypeRow → TypeNames
+type_names row = record { name = row.name; fields = field_names row.form }
+
+-- the names that the terms of a program are printed with
 abbrev pub names_in : Program → Names
-names_in p = record { variables = declared_names p; types = [] }
+names_in p = record { variables = declared_names p; types = map type_names p.types }
 
 -- `H1 TERM`, or with another letter and number
 unfoldable pub term_line : Names → List ℕ → ℕ → Term → List ℕ

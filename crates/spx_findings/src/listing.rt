@@ -1,5 +1,6 @@
 // The text of the verification conditions of a program.
-ghost use Rattle.std.specs.Prelude.{◌≡◌, ◌++◌, ◌<◌, Some, None, length, slice_get, IfErr, IfOk, OnOk};
+ghost use Rattle.std.specs.Prelude.{◌≡◌, ◌++◌, ◌<◌, Some, None, length, map, slice_get, IfErr, IfOk, OnOk};
+ghost use Rattle.spx_core.specs.declared.program.Field as spec_field;
 ghost use Rattle.spx_core.specs.declared.subprogram.Sub.{Sub};
 ghost use Rattle.spx_text.specs.Loads.{names};
 ghost use Rattle.spx_findings.specs.Findings.{first_limit, limit_at, limit_of};
@@ -7,10 +8,10 @@ ghost use Rattle.spx_report.specs.Limits.{IsFaultOf};
 ghost use Rattle.spx_findings.specs.Listing as spec;
 
 use crate::tally::kind_text;
-use spx_core::{Program, SubId};
+use spx_core::{Field, Program, SubId, TypeForm, TypeRow};
 use spx_num::decimal;
 use spx_report::{FindFault, LimitName, spot_text};
-use spx_term::{Condition, Names, Term, print};
+use spx_term::{Condition, Names, Term, TypeNames, print};
 use spx_text::Text;
 use spx_vcg::{VcFault, conditions};
 use sqlite_items::Items;
@@ -27,13 +28,56 @@ fn declared_names(alloc: Global, program: &Program) -> Result<Items<Text>, Alloc
     Ok(declared)
 }
 
+/// The names of the fields.
+fn names_of(alloc: Global, fields: &[Field]) -> Result<Items<Text>, AllocError>
+    ensures { IfOk result (λ names. names ≡ map (λ (field : spec_field.Field). field.name) fields.now) }
+{
+    let mut names = Items::new(alloc);
+    for field in fields {
+        names.push(field.name.copy(alloc)?)?;
+    }
+    Ok(names)
+}
+
+/// The names of the fields of a type, which only a record type has.
+fn field_names(alloc: Global, form: &TypeForm) -> Result<Items<Text>, AllocError>
+    ensures { IfOk result (λ names. names ≡ spec.field_names form.now) }
+{
+    match form {
+        TypeForm::Scalar => Ok(Items::new(alloc)),
+        TypeForm::Array(_, _) => Ok(Items::new(alloc)),
+        TypeForm::Record(fields) => names_of(alloc, fields.as_slice()),
+    }
+}
+
+/// The names of a type and of its fields.
+fn type_names(alloc: Global, row: &TypeRow) -> Result<TypeNames, AllocError>
+    ensures { IfOk result (λ names. names ≡ spec.type_names row.now) }
+{
+    Ok(TypeNames {
+        name: row.name.copy(alloc)?,
+        fields: field_names(alloc, &row.form)?,
+    })
+}
+
+/// The names of the types of a program, by their positions.
+fn names_of_types(alloc: Global, program: &Program) -> Result<Items<TypeNames>, AllocError>
+    ensures { IfOk result (λ names. names ≡ map spec.type_names program.now.types) }
+{
+    let mut names = Items::new(alloc);
+    for row in program.types.as_slice() {
+        names.push(type_names(alloc, row)?)?;
+    }
+    Ok(names)
+}
+
 /// The names that the terms of a program are printed with.
 fn names_in(alloc: Global, program: &Program) -> Result<Names, AllocError>
     ensures { IfOk result (λ names. names ≡ spec.names_in program.now) }
 {
     Ok(Names {
         variables: declared_names(alloc, program)?,
-        types: Items::new(alloc),
+        types: names_of_types(alloc, program)?,
     })
 }
 
