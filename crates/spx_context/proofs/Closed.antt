@@ -8,6 +8,9 @@ use Rattle.spx_tree.specs.declared.expression.PrefixOp.{PrefixOp}
 use Rattle.spx_tree.specs.declared.expression.MemberOp.{MemberOp}
 use Rattle.spx_core.specs.declared.entity.Entity.{Entity}
 use Rattle.spx_core.specs.declared.entity.Entity.TheVariants as entity
+use Rattle.spx_core.specs.declared.entity.Subtype.{Subtype}
+use Rattle.spx_core.specs.declared.part.Indexing.{Indexing}
+use Rattle.spx_core.specs.declared.part.Selection.{Selection}
 use Rattle.spx_core.specs.declared.expression.CoreExpr.{CoreExpr}
 use Rattle.spx_core.specs.declared.function.Mapping.{Mapping}
 use Rattle.spx_core.specs.declared.rule.ExprType.{ExprType}
@@ -16,9 +19,9 @@ use Rattle.spx_core.specs.declared.rule.RuleName.{RuleName}
 use Rattle.spx_core.specs.declared.rule.RuleName.TheVariants.{N3, N10, N12, N14, N18}
 use Rattle.spx_core.specs.declared.rule.Typing.{Typing}
 use Rattle.spx_core.specs.Contexts.{is_open, is_universal}
-use Rattle.spx_core.specs.Judged.{Judged, ◌>>=◌, application, expr_step, has_attribute, is_attribute, judged, keeps, mapped, member_of_range, named_object, named_type, operation, ordered_type, sign, value_at}
-use Rattle.spx_core.specs.Types.{both_held, is_held, is_of, is_taken, left_type, lies_in, lies_in_operand, lies_within, met, operand_fits, operands_fit, result_of, result_type, right_type, shifted_value, signed_result, three_fit}
-use Rattle.spx_core.proofs.Callers.Expressions.{Cases, induct, fold-Number, fold-Name, fold-Entry, fold-Attribute, fold-Applied, fold-Parenthesized, fold-Implicit, fold-Prefix, fold-Infix, fold-InType, fold-InRange}
+use Rattle.spx_core.specs.Judged.{Judged, ◌>>=◌, application, element, expr_step, has_attribute, indexed, is_attribute, judged, keeps, mapped, member_of_range, named_object, named_type, operation, ordered_type, selected, sign, standing_at, value_at}
+use Rattle.spx_core.specs.Types.{both_held, has_parts, is_held, is_of, is_taken, is_typed_at, left_type, lies_in, lies_in_operand, lies_within, met, operand_fits, operands_fit, result_of, result_type, right_type, shifted_value, signed_result, three_fit}
+use Rattle.spx_core.proofs.Callers.Expressions.{Cases, induct, fold-Number, fold-Name, fold-Entry, fold-Attribute, fold-Applied, fold-Parenthesized, fold-Implicit, fold-Prefix, fold-Infix, fold-InType, fold-InRange, fold-Element, fold-Selected}
 use Rattle.spx_context.specs.Powers.{has_power, is_power, power_step}
 
 -- ---- judgements one after another
@@ -102,14 +105,23 @@ range_closed o place tested low high =
     then_closed (keeps N12 tested.place (lies_in of tested.value)) _ (λ _.
     then_closed (keeps N12 low.place (lies_in of low.value)) _ (λ _. then_closed (keeps N12 high.place (lies_in of high.value)) _ (λ _. refl))))
 
+element_closed : (x : Indexing) (a i : Typing) → is_open (element x a i) ≡ false
+element_closed x a i = then_closed (keeps N10 a.place (is_typed_at x.array a.of)) _ (λ _. then_closed (indexed x i) _ (λ _. refl))
+
+selected_closed : (x : Selection) (a : Typing) → is_open (selected x a) ≡ false
+selected_closed x a = then_closed (keeps N10 a.place (is_typed_at x.record a.of)) _ (λ _. refl)
+
 -- ---- and each form
+
+standing_closed : (place : Place) (subtype : Subtype) (n : ℤ) → is_open (standing_at place subtype n) ≡ false
+standing_closed place subtype n = then_closed (keeps N10 place (not (has_parts subtype.base.class))) _ (λ _. refl)
 
 value_closed : (place : Place) (denoted : Option Entity) → is_open (value_at place denoted) ≡ false
 value_closed place None = refl
 value_closed place (Some (entity.Variable v object)) = refl
-value_closed place (Some (entity.Constant subtype n)) = refl
+value_closed place (Some (entity.Constant subtype n)) = standing_closed place subtype n
 value_closed place (Some (entity.NamedNumber n)) = refl
-value_closed place (Some (entity.Literal subtype position)) = refl
+value_closed place (Some (entity.Literal subtype position)) = standing_closed place subtype position
 value_closed place (Some other) = refl
 
 bind_open : (j : Judged Typing) (f : Typing → Judged Typing) → is_open j ≡ false → ((t : Typing) → is_open (Ok t) ≡ false → is_open (f t) ≡ false) → is_open (j >>= f) ≡ false
@@ -147,6 +159,8 @@ closed_cases = record {
   in_range = λ o place a low high p q r plain.
       ap is_open (fold-InRange expr_step o place a low high)
       ∙ then_closed (judged a) _ (λ t. then_closed (judged low) _ (λ l. then_closed (judged high) _ (λ h. range_closed o place t l h)));
+  element = λ a place i x p q plain. ap is_open (fold-Element expr_step a place i x) ∙ then_closed (judged a) _ (λ t. then_closed (judged i) _ (λ k. element_closed x t k));
+  selected = λ a field x p plain. ap is_open (fold-Selected expr_step a field x) ∙ then_closed (judged a) _ (λ t. selected_closed x t);
 }
 
 pub closed : (e : CoreExpr) → has_power e ≡ false → is_open (judged e) ≡ false

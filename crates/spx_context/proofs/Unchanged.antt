@@ -3,17 +3,16 @@ use Rattle.std.proofs.Common.{◌≡◌, Bool, false, ◌||◌, if◌then◌else
 use Rattle.std.proofs.lemmas.Bool.{and_right, or_parts}
 use Rattle.spx_tree.specs.declared.expression.InfixOp.{InfixOp}
 use Rattle.spx_tree.specs.declared.expression.InfixOp.TheVariants as op
-use Rattle.spx_core.specs.declared.entity.TheConstants.{INTEGER}
 use Rattle.spx_core.specs.declared.entity.BaseType.{BaseType}
 use Rattle.spx_core.specs.declared.expression.CoreExpr.{CoreExpr}
-use Rattle.spx_core.specs.declared.expression.CoreExpr.TheVariants.{Applied, Parenthesized, Prefix, Infix, InType, InRange}
+use Rattle.spx_core.specs.declared.expression.CoreExpr.TheVariants.{Applied, Parenthesized, Prefix, Infix, InType, InRange, Element, Selected}
 use Rattle.spx_core.specs.declared.rule.ExprType.{ExprType}
 use Rattle.spx_core.specs.declared.rule.ExprType.TheVariants.{Universal, Of}
 use Rattle.spx_core.specs.declared.rule.Typing.{Typing}
-use Rattle.spx_core.specs.Contexts.{in_context, is_open, left_takes, met_by, met_by_operand, met_in_range, right_takes, taken, taking, taking-Number, taking-Name, taking-Entry, taking-Attribute, taking-Applied, taking-Parenthesized, taking-Implicit, taking-Prefix, taking-Infix, taking-InType, taking-InRange, type_given}
+use Rattle.spx_core.specs.Contexts.{in_context, is_open, left_takes, met_by, met_by_operand, met_in_range, right_takes, taken, taking, taking-Number, taking-Name, taking-Entry, taking-Attribute, taking-Applied, taking-Parenthesized, taking-Implicit, taking-Prefix, taking-Infix, taking-InType, taking-InRange, taking-Element, taking-Selected, type_given}
 use Rattle.spx_core.specs.Judged.{Judged, judged}
 use Rattle.spx_core.specs.Types.{is_numeric}
-use Rattle.spx_core.proofs.Callers.Expressions.{Cases, induct, fold-Applied, fold-Parenthesized, fold-Prefix, fold-Infix, fold-InType, fold-InRange}
+use Rattle.spx_core.proofs.Callers.Expressions.{Cases, induct, fold-Applied, fold-Parenthesized, fold-Prefix, fold-Infix, fold-InType, fold-InRange, fold-Element, fold-Selected}
 use Rattle.spx_context.specs.Powers.{has_power, is_power, power_step}
 use Rattle.spx_context.proofs.Closed.{closed}
 
@@ -65,6 +64,10 @@ unchanged_cases = record {
       taking-InRange None o place a low high
       ∙ ap (λ x. InRange o place x (in_context of low) (in_context of high)) (in_part of a first.0 p)
       ∙ ap₂ (InRange o place a) (in_part of low ends.0 q) (in_part of high ends.1 r);
+  element = λ a place i x p q plain.
+      let parts = or_parts (has_power a) (has_power i) (sym (fold-Element power_step a place i x) ∙ plain) in
+      taking-Element None a place i x ∙ ap₂ (λ y z. Element y place z x) (p parts.0) (in_part (Of x.index.base) i parts.1 q);
+  selected = λ a field x p plain. taking-Selected None a field x ∙ ap (λ y. Selected y field x) (p (sym (fold-Selected power_step a field x) ∙ plain));
 }
 
 pub unchanged : (of : ExprType) (e : CoreExpr) → has_power e ≡ false → in_context of e ≡ e

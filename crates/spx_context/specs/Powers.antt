@@ -22,6 +22,8 @@ power_step (CoreExpr-F.Prefix op place operand) = operand
 power_step (CoreExpr-F.Infix op place left right) = is_power op || (left || right)
 power_step (CoreExpr-F.InType op place tested type_name) = tested
 power_step (CoreExpr-F.InRange op place tested low high) = tested || (low || high)
+power_step (CoreExpr-F.Element a place i x) = a || i
+power_step (CoreExpr-F.Selected a field x) = a
 
 -- there is a power in the expression
 abbrev pub has_power : CoreExpr → Bool

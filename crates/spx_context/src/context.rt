@@ -1,12 +1,13 @@
 // An expression where it meets a type.
 ghost use Rattle.std.specs.Prelude.{◌≡◌, IfOk, false};
-ghost use Rattle.spx_core.specs.declared.expression.CoreExpr.TheVariants.{Applied, InType};
+ghost use Rattle.spx_core.specs.declared.expression.CoreExpr.TheVariants.{Applied, Element, InType};
+ghost use Rattle.spx_core.specs.declared.rule.ExprType.TheVariants.{Of};
 ghost use Rattle.spx_core.specs.Contexts.{in_context, met_by_operand, taking, type_given};
 ghost use Rattle.spx_context.specs.Converted.{is_converted};
 
 use crate::operands::{is_static, met_by_operand, operands_take, range_meets, taken, type_given};
 use crate::powers::has_power;
-use spx_core::{BaseType, CoreExpr, CoreFunction, ExprType, Reference};
+use spx_core::{BaseType, CoreExpr, CoreFunction, ExprType, Indexing, Reference};
 use spx_text::Place;
 use spx_tree::MemberOp;
 use spx_types::judge;
@@ -98,6 +99,14 @@ fn with_parts(
             let high = part(alloc, of, high)?;
             Boxed::new(alloc, CoreExpr::InRange(op, place, tested, low, high))
         }
+        CoreExpr::Element(prefix, place, index, indexing) => {
+            let prefix = taking(alloc, None, prefix)?;
+            in_element(alloc, index, prefix, place, indexing)
+        }
+        CoreExpr::Selected(prefix, field, selection) => {
+            let prefix = taking(alloc, None, prefix)?;
+            Boxed::new(alloc, CoreExpr::Selected(prefix, field, selection))
+        }
     }
 }
 
@@ -129,4 +138,20 @@ fn in_type(
 {
     let tested = part(alloc, type_given(name.root.entity), tested)?;
     Boxed::new(alloc, CoreExpr::InType(op, place, tested, name))
+}
+
+/// The index of an element meets the index type of the array.
+#[cycle(taking)]
+fn in_element(
+    alloc: Global,
+    index: Boxed<CoreExpr>,
+    prefix: Boxed<CoreExpr>,
+    place: Place,
+    indexing: Boxed<Indexing>,
+) -> Result<Boxed<CoreExpr>, AllocError>
+    ensures { IfOk result (λ r. r ≡ Element prefix place (in_context (Of indexing.index.base) index) indexing) }
+{
+    let of = ExprType::Of(indexing.get().index.base);
+    let index = part(alloc, of, index)?;
+    Boxed::new(alloc, CoreExpr::Element(prefix, place, index, indexing))
 }

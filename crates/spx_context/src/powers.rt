@@ -26,5 +26,7 @@ pub fn has_power(expr: &CoreExpr) -> bool
         CoreExpr::InRange(_, _, tested, low, high) => {
             has_power(tested.get()) || has_power(low.get()) || has_power(high.get())
         }
+        CoreExpr::Element(prefix, _, index, _) => has_power(prefix.get()) || has_power(index.get()),
+        CoreExpr::Selected(prefix, _, _) => has_power(prefix.get()),
     }
 }

@@ -1,10 +1,10 @@
 // The values and the base types of expressions.
 ghost use Rattle.std.specs.Prelude.{◌≡◌};
-ghost use Rattle.spx_meaning.specs.Literals.{base_in, base_of, literal, value_of};
+ghost use Rattle.spx_meaning.specs.Literals.{base_in, base_of, literal, static_in, value_of};
 
 use spx_core::{BaseType, Class, CoreExpr, ExprType, UNIVERSAL, variable_of};
 use spx_term::Scalar;
-use spx_types::judge;
+use spx_types::{is_parted, judge};
 
 /// A static value of a type. That of a Boolean type is a position.
 fn value_of(of: ExprType, value: i128) -> Scalar
@@ -13,9 +13,20 @@ fn value_of(of: ExprType, value: i128) -> Scalar
     match of {
         ExprType::Universal => Scalar::number(value),
         ExprType::Of(base) => match base.class {
-            Class::Integer | Class::Enumeration => Scalar::number(value),
+            Class::Integer | Class::Enumeration | Class::Composite => Scalar::number(value),
             Class::Boolean => Scalar::truth(value != 0),
         },
+    }
+}
+
+/// The static value of an expression of a type; a type whose values have parts has no literals.
+fn static_in(of: ExprType, value: Option<i128>) -> Option<Scalar>
+    ensures { result ≡ static_in of value }
+{
+    if is_parted(of) {
+        None
+    } else {
+        value.map(|value| value_of(of, value))
     }
 }
 
@@ -33,7 +44,7 @@ fn judged_literal(expr: &CoreExpr) -> Option<Scalar>
     ensures { result ≡ literal expr.now }
 {
     match judge(expr) {
-        Ok(typing) => typing.value.map(|value| value_of(typing.of, value)),
+        Ok(typing) => static_in(typing.of, typing.value),
         Err(_) => None,
     }
 }

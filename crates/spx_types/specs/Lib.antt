@@ -1,1 +1,2 @@
 pub mod TypeIds
+pub mod Ways

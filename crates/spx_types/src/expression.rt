@@ -8,6 +8,7 @@ use crate::attributes::attribute;
 use crate::functions::{application, mapped};
 use crate::membership::{member_of_range, member_of_type, ordered_type};
 use crate::names::{entry_value, keeps, named_value};
+use crate::parts::{element, selected};
 use crate::types::{
     is_boolean, is_of, left_type, operand_fits, operands_fit, result_type, right_type,
 };
@@ -125,6 +126,13 @@ pub fn judge(expr: &CoreExpr) -> Result<Typing, Breach>
             let tested = judge(tested.get())?;
             let low = judge(low.get())?;
             member_of_range(*op, *place, tested, low, judge(high.get())?)
+        }
+        CoreExpr::Element(prefix, _, index, indexing) => {
+            let prefix = judge(prefix.get())?;
+            element(*indexing.get(), prefix, judge(index.get())?)
+        }
+        CoreExpr::Selected(prefix, _, selection) => {
+            selected(*selection.get(), judge(prefix.get())?)
         }
     }
 }

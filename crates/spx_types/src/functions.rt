@@ -13,13 +13,13 @@ use spx_core::{
 use spx_text::{Place, Text};
 use spx_tree::FunctionForm;
 
-/// What is asked of values of a class: nothing of truth values.
+/// What is asked of values of a class: nothing of truth values, and of values with parts.
 fn bounds_in(class: Class, span: Span) -> Option<Span>
     ensures { result ≡ rules.bounds_in class span }
 {
     match class {
         Class::Integer | Class::Enumeration => Some(span),
-        Class::Boolean => None,
+        Class::Boolean | Class::Composite => None,
     }
 }
 

@@ -12,15 +12,19 @@ mod expression;
 mod functions;
 mod membership;
 mod names;
+mod parts;
+mod targets;
 mod types;
 mod values;
 
 pub use expression::{condition, judge, operand_of, static_at, static_value, type_of};
 pub use functions::application;
 pub use membership::ordered_type;
-pub use names::{keeps, named_type, referred_object, referred_target, referred_type};
+pub use names::{keeps, named_type, referred_object, referred_type};
+pub use parts::indexed;
+pub use targets::{judged_way, referred_target};
 pub use types::{
-    has_numbers, is_number, is_numeric, is_of, is_ordered, is_same_type, met, operands_fit,
-    right_type, three_fit,
+    has_numbers, is_number, is_numeric, is_of, is_ordered, is_parted, is_same_type, met,
+    operands_fit, right_type, three_fit,
 };
 pub use values::{is_between, lies_in, span_of, span_of_type};

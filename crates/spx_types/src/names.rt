@@ -1,9 +1,8 @@
 // What names denote, or the first rule that is broken in them (Ada 95 RM 4.1, 8.3).
-ghost use Rattle.std.specs.Prelude.{◌≡◌, Some, ok_or};
-ghost use Rattle.spx_core.specs.declared.rule.ExprType.TheVariants.{Of};
+ghost use Rattle.std.specs.Prelude.{◌≡◌, ok_or};
 ghost use Rattle.spx_core.specs.Judged as rules;
-ghost use Rattle.spx_core.specs.Types.{position_in};
 
+use crate::types::has_parts;
 use crate::values::position_in;
 use spx_core::{
     Breach, CoreName, Entity, ExprType, Object, Reference, RuleName, Step, Subtype, Typing,
@@ -59,7 +58,7 @@ fn named_object(name: &CoreName) -> Result<Object, Breach>
 }
 
 /// The type of what an assignment may name: a variable, or, as far as names and types go, a constant.
-fn named_target(name: &CoreName) -> Result<Subtype, Breach>
+pub fn named_target(name: &CoreName) -> Result<Subtype, Breach>
     ensures { result ≡ rules.named_target name.now }
 {
     match entity_of(name)? {
@@ -73,15 +72,17 @@ fn named_target(name: &CoreName) -> Result<Subtype, Breach>
     }
 }
 
-/// What stands for a static value of a type: that of a Boolean type is a position.
-fn static_of(subtype: Subtype, n: i128, place: Place) -> Typing
-    ensures { result ≡ rules.typing (Of subtype.base) (Some (position_in subtype.base.class n)) place }
+/// What stands for a static value of a type without parts: that of a Boolean type is a position.
+fn standing_at(place: Place, subtype: Subtype, n: i128) -> Result<Typing, Breach>
+    ensures { result ≡ rules.standing_at place subtype n }
 {
-    Typing {
+    let class = subtype.base.class;
+    keeps(RuleName::N10, place, !has_parts(class))?;
+    Ok(Typing {
         of: ExprType::Of(subtype.base),
-        value: Some(position_in(subtype.base.class, n)),
+        value: Some(position_in(class, n)),
         place,
-    }
+    })
 }
 
 /// The value that a name denotes: an object has one, a constant and a named number stand for one, and a literal is one.
@@ -95,8 +96,8 @@ pub fn named_value(name: &CoreName) -> Result<Typing, Breach>
             value: None,
             place,
         }),
-        Entity::Constant(subtype, n) => Ok(static_of(subtype, n, place)),
-        Entity::Literal(subtype, position) => Ok(static_of(subtype, position, place)),
+        Entity::Constant(subtype, n) => standing_at(place, subtype, n),
+        Entity::Literal(subtype, position) => standing_at(place, subtype, position),
         Entity::NamedNumber(n) => Ok(Typing {
             of: ExprType::Universal,
             value: Some(n),
@@ -123,7 +124,7 @@ pub fn entry_value(name: &CoreName, allowed: bool) -> Result<Typing, Breach>
     })
 }
 
-fn is_whole(way: &[Step]) -> bool
+pub fn is_whole(way: &[Step]) -> bool
     ensures { result ≡ rules.is_whole way.now }
 {
     matches!(way, [])
@@ -153,13 +154,4 @@ pub fn referred_object(reference: &Reference) -> Result<Object, Breach>
     let object = named_object(&reference.root)?;
     whole(reference)?;
     Ok(object)
-}
-
-/// The type of what a whole name denotes, which an assignment may name.
-pub fn referred_target(reference: &Reference) -> Result<Subtype, Breach>
-    ensures { result ≡ rules.referred_target reference.now }
-{
-    let subtype = named_target(&reference.root)?;
-    whole(reference)?;
-    Ok(subtype)
 }

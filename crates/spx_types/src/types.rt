@@ -2,7 +2,7 @@
 ghost use Rattle.std.specs.Prelude.{◌≡◌};
 ghost use Rattle.spx_core.specs.Types as is;
 
-use spx_core::{BOOLEAN, BaseType, Class, ExprType, INTEGER, OperandType};
+use spx_core::{BOOLEAN, BaseType, Class, ExprType, INTEGER, OperandType, TypeId};
 use spx_tree::{InfixOp, PrefixOp};
 
 /// The values are numbers, with arithmetic.
@@ -33,6 +33,13 @@ pub fn has_numbers(class: Class) -> bool
     matches!(class, Class::Integer | Class::Enumeration)
 }
 
+/// The values have parts.
+pub fn has_parts(class: Class) -> bool
+    ensures { result ≡ is.has_parts class }
+{
+    matches!(class, Class::Composite)
+}
+
 fn same_class(class: Class, other: Class) -> bool
     ensures { result ≡ is.same_class class other }
 {
@@ -40,6 +47,7 @@ fn same_class(class: Class, other: Class) -> bool
         Class::Integer => is_numeric(other),
         Class::Boolean => has_truths(other),
         Class::Enumeration => has_literals(other),
+        Class::Composite => has_parts(other),
     }
 }
 
@@ -47,6 +55,33 @@ fn same_base(a: BaseType, b: BaseType) -> bool
     ensures { result ≡ is.same_base a b }
 {
     a.id.0 == b.id.0 && same_class(a.class, b.class)
+}
+
+/// Whether the values of a type have parts; those of universal expressions have none.
+pub fn is_parted(of: ExprType) -> bool
+    ensures { result ≡ is.is_parted of }
+{
+    match of {
+        ExprType::Universal => false,
+        ExprType::Of(base) => has_parts(base.class),
+    }
+}
+
+/// Whether the type has parts, and stands at this position of the table.
+pub fn is_type_at(id: TypeId, base: BaseType) -> bool
+    ensures { result ≡ is.is_type_at id base }
+{
+    has_parts(base.class) && base.id.0 == id.0
+}
+
+/// Whether the type of an expression has parts, and stands at this position of the table.
+pub fn is_typed_at(id: TypeId, of: ExprType) -> bool
+    ensures { result ≡ is.is_typed_at id of }
+{
+    match of {
+        ExprType::Universal => false,
+        ExprType::Of(base) => is_type_at(id, base),
+    }
 }
 
 /// Whether an expression of this type fits where the base type is needed.

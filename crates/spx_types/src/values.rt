@@ -57,7 +57,7 @@ pub fn position_in(class: Class, position: i128) -> i128
     ensures { result ≡ is.position_in class position }
 {
     match class {
-        Class::Integer | Class::Enumeration => position,
+        Class::Integer | Class::Enumeration | Class::Composite => position,
         Class::Boolean => truth(is_true(position)),
     }
 }

@@ -53,7 +53,7 @@ pub fn listed_by(alternative: &CoreAlternative) -> &[CoreChoice]
     ensures { result.now ≡ listed_by alternative.now }
 {
     match &alternative.choices {
-        Some(choices) => choices.get().as_slice(),
+        Some(choices) => choices.as_slice(),
         None => &[],
     }
 }

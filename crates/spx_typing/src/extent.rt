@@ -31,7 +31,7 @@ fn extent_applied(of: ExprType, function: &CoreFunction) -> Span
     }
 }
 
-/// The values that the rule asks for.
+/// The values that the rule asks for: of an element or a field those of its subtype.
 fn extent_in(of: ExprType, expr: &CoreExpr) -> Span
     ensures { result ≡ values.extent_in of (out-CoreExpr expr.now) }
 {
@@ -39,6 +39,8 @@ fn extent_in(of: ExprType, expr: &CoreExpr) -> Span
         CoreExpr::Name(name) => extent_named(of, name.entity),
         CoreExpr::Entry(name, _) => extent_named(of, name.entity),
         CoreExpr::Applied(function, _, _) => extent_applied(of, function),
+        CoreExpr::Element(_, _, _, indexing) => span_of(indexing.get().element),
+        CoreExpr::Selected(_, _, selection) => span_of(selection.get().field),
         _ => span_of_type(of),
     }
 }
@@ -141,6 +143,8 @@ pub fn extent(expr: &CoreExpr) -> Span
         | CoreExpr::Entry(..)
         | CoreExpr::Attribute(..)
         | CoreExpr::InType(..)
-        | CoreExpr::InRange(..) => own,
+        | CoreExpr::InRange(..)
+        | CoreExpr::Element(..)
+        | CoreExpr::Selected(..) => own,
     }
 }

@@ -6,7 +6,7 @@ ghost use Rattle.spx_core.specs.Resolved.{row_of, subtype_of};
 
 use crate::declaration::judge_decl;
 use spx_core::{
-    Breach, CoreDecl, Defining, Entity, Program, RuleName, Subtype, TypeRow, UNIVERSAL,
+    Breach, CoreDecl, Defining, Entity, Program, RuleName, Subtype, TypeForm, TypeRow, UNIVERSAL,
 };
 use std::alloc::{AllocError, Global};
 use thiserror::Error;
@@ -53,6 +53,7 @@ fn row_of(alloc: Global, name: &Defining) -> Result<TypeRow, AllocError>
     Ok(TypeRow {
         name: name.name.text.copy(alloc)?,
         subtype: subtype_of(name.entity),
+        form: TypeForm::Scalar,
     })
 }
 

@@ -10,12 +10,11 @@ ghost use Rattle.spx_typing.specs.Choices.{alternatives_in, done_in};
 use crate::choices::{judge_choices, judge_selector};
 use spx_core::{
     Breach, CoreAlternative, CoreArm, CoreCount, CoreDerivesItem, CoreExpr, CorePredicate,
-    CoreRange, CoreScheme, CoreStmt, ExprType, Reference, RuleName, Subtype,
+    CoreRange, CoreScheme, CoreStmt, ExprType, Reference, RuleName, Subtype, Target,
 };
 use spx_types::{
     condition, judge, keeps, operand_of, ordered_type, referred_object, referred_target,
 };
-use sqlite_items::Boxed;
 
 fn judge_variable(reference: &Reference) -> Result<(), Breach>
     ensures { result ≡ rules.judged_variable reference.now }
@@ -55,7 +54,7 @@ pub fn judge_predicate(predicate: &CorePredicate) -> Result<(), Breach>
     test(predicate.condition.get())
 }
 
-fn assignment(target: &Reference, value: &CoreExpr) -> Result<(), Breach>
+fn assignment(target: &Target, value: &CoreExpr) -> Result<(), Breach>
     ensures { result ≡ rules.assignment target.now value.now }
 {
     let subtype = referred_target(target)?;
@@ -71,12 +70,12 @@ fn judge_range(subtype: Subtype, range: &CoreRange) -> Result<(), Breach>
 }
 
 /// The first broken rule in the bounds of a loop over values of this type, if they are written.
-fn judge_bounds(subtype: Subtype, bounds: &Option<Boxed<CoreRange>>) -> Result<(), Breach>
+fn judge_bounds(subtype: Subtype, bounds: &Option<CoreRange>) -> Result<(), Breach>
     ensures { result ≡ if_there (rules.judged_bounds subtype) bounds.now }
 {
     match bounds {
         None => Ok(()),
-        Some(range) => judge_range(subtype, range.get()),
+        Some(range) => judge_range(subtype, range),
     }
 }
 
