@@ -1,12 +1,15 @@
 -- What a tree of items means: an effect.
 use Rattle.std.specs.Prelude.{Bool, List, [], ◌∷◌, ◌++◌, map, Option, Some, None, option_map}
+use Rattle.std.specs.List.{filter_map}
 use Rattle.spx_text.specs.declared.place.Place.{Place}
+use Rattle.spx_core.specs.declared.part.PartStep.{PartStep}
 use Rattle.spx_core.specs.declared.statement.CoreArm.{CoreArm, out-CoreArm}
 use Rattle.spx_core.specs.declared.statement.CoreStmt.{CoreStmt}
 use Rattle.spx_core.specs.declared.statement.CoreScheme.{CoreScheme}
 use Rattle.spx_core.specs.declared.statement.CoreScheme.TheVariants as scheme
 use Rattle.spx_core.specs.Commands.{commands, leaves}
-use Rattle.spx_core.specs.Effects.{Effect, Read, nothing, assign, next, choose, observe, repeat, count, endless, chosen, effects, reads_of, reads_of_range}
+use Rattle.spx_core.specs.Reads.{names_in_step}
+use Rattle.spx_core.specs.Effects.{Effect, Read, nothing, assign, next, choose, observe, repeat, count, endless, chosen, effects, read_of, reads_of, reads_of_range}
 use Rattle.spx_lower.specs.declared.item.Item.{Item, Item-F, fold-Item}
 use Rattle.spx_lower.specs.declared.item.Arm.{Arm, Arm-F, fold-Arm}
 use Rattle.spx_lower.specs.declared.item.Head.{Head}
@@ -65,6 +68,10 @@ given_body place reads stmts = record { place = place; reads = reads; is_exit = 
 
 abbrev pub given_arm : CoreArm → Test
 given_arm arm = given_body (out-CoreArm arm).place (reads_of (out-CoreArm arm).condition) (out-CoreArm arm).body
+
+-- what the index of a step on the way to a part reads
+abbrev pub reads_in_step : PartStep → List Read
+reads_in_step step = filter_map read_of (names_in_step step)
 
 abbrev pub given_loop : CoreScheme → Effect → Effect
 given_loop (scheme.While place condition) body = repeat (reads_of condition) body place

@@ -6,9 +6,9 @@ ghost use Rattle.spx_lower.specs.Meaning.{arm_of, effect_in, effect_of, given_ar
 ghost use Rattle.spx_lower.specs.declared.item.Item.TheVariants.{Branch};
 
 use crate::item::{Arm, Assignment, Head, Item, Read};
-use crate::reads::{reads_of, reads_of_bounds};
+use crate::reads::{reads_assigned, reads_of, reads_of_bounds};
 use spx_core::{
-    CoreAlternative, CoreArm, CoreExpr, CoreScheme, CoreStmt, Reference, has_own_exit, variable_of,
+    CoreAlternative, CoreArm, CoreExpr, CoreScheme, CoreStmt, Target, has_own_exit, variable_of,
 };
 use spx_text::Place;
 use sqlite_items::{Boxed, Items};
@@ -33,16 +33,12 @@ fn lowered_head(alloc: Global, scheme: &CoreScheme) -> Result<Boxed<Head>, Alloc
 }
 
 /// An assignment.
-fn lowered_assignment(
-    alloc: Global,
-    target: &Reference,
-    value: &CoreExpr,
-) -> Result<Item, AllocError>
+fn lowered_assignment(alloc: Global, target: &Target, value: &CoreExpr) -> Result<Item, AllocError>
     ensures { IfOk result (λ item. effect_of item ≡ effect (Set target.now value.now)) }
 {
     let assignment = Assignment {
         target: variable_of(target.root.entity),
-        reads: reads_of(alloc, value)?,
+        reads: reads_assigned(alloc, target, value)?,
         place: target.root.name.place,
     };
     let assignment = Boxed::new(alloc, assignment)?;

@@ -54,6 +54,11 @@ fn read_allowed(tables: &Tables, allowed: Allowed, expr: &CoreExpr) -> Result<()
             read_allowed(tables, allowed, low.get())?;
             read_allowed(tables, allowed, high.get())
         }
+        CoreExpr::Element(prefix, _, index, _) => {
+            read_allowed(tables, allowed, prefix.get())?;
+            read_allowed(tables, allowed, index.get())
+        }
+        CoreExpr::Selected(prefix, _, _) => read_allowed(tables, allowed, prefix.get()),
     }
 }
 
