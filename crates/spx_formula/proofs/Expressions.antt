@@ -1,5 +1,5 @@
 -- Terms of expressions, where a value is static and where none is.
-use Rattle.std.proofs.Common.{◌≡◌, Bool, ℤ, pos, Option, Some, None, Ok, Err, refl, sym, ap, ◌∙◌}
+use Rattle.std.proofs.Common.{◌≡◌, Bool, true, false, if◌then◌else◌, ℤ, pos, Option, Some, None, Ok, Err, refl, sym, ap, ◌∙◌}
 use Rattle.std.specs.Prelude.{⊤}
 use Rattle.spx_text.specs.declared.place.Place.{Place}
 use Rattle.spx_tree.specs.declared.expression.Identifier.{Identifier}
@@ -15,21 +15,25 @@ use Rattle.spx_core.specs.declared.expression.CoreExpr.{CoreExpr, CoreExpr-F}
 use Rattle.spx_core.specs.declared.expression.CoreExpr.TheVariants as expr
 use Rattle.spx_core.specs.declared.function.CoreFunction.{CoreFunction}
 use Rattle.spx_core.specs.declared.function.Mapping.{Mapping}
+use Rattle.spx_core.specs.declared.part.Indexing.{Indexing}
+use Rattle.spx_core.specs.declared.part.Selection.{Selection}
+use Rattle.spx_core.specs.declared.rule.ExprType.{ExprType}
 use Rattle.spx_core.specs.declared.rule.ExprType.TheVariants.{Of}
-use Rattle.spx_core.specs.declared.rule.RuleName.TheVariants.{N18}
-use Rattle.spx_core.specs.Judged.{Judged, ◌>>=◌, application, expr_step, judged, keeps, named_object, typing}
+use Rattle.spx_core.specs.declared.rule.RuleName.TheVariants.{N10, N18}
+use Rattle.spx_core.specs.Types.{is_parted, is_typed_at}
+use Rattle.spx_core.specs.Judged.{Judged, ◌>>=◌, application, element, expr_step, indexed, judged, keeps, named_object, selected, typing}
 use Rattle.spx_core.specs.declared.rule.Typing.{Typing}
 use Rattle.spx_core.specs.Uses.{variable_of}
-use Rattle.spx_core.proofs.Callers.Expressions.{fold-Entry, fold-Number, fold-Parenthesized, induct}
+use Rattle.spx_core.proofs.Callers.Expressions.{fold-Element, fold-Entry, fold-Number, fold-Parenthesized, fold-Selected, induct}
 use Rattle.spx_term.specs.declared.term.Term.{Term}
 use Rattle.spx_term.specs.declared.term.Term.TheVariants.{Number, Infix}
 use Rattle.spx_term.specs.declared.value.Value.{Value}
 use Rattle.spx_term.specs.declared.value.Value.TheVariants as value
 use Rattle.spx_term.specs.Folding.{static_term}
 use Rattle.spx_meaning.specs.Evaluation.{term_op}
-use Rattle.spx_meaning.specs.Literals.{literal, literal_in}
+use Rattle.spx_meaning.specs.Literals.{literal, literal_in, static_in}
 use Rattle.spx_meaning.proofs.Callers.Literals.{implicit_literal}
-use Rattle.spx_formula.specs.Terms.{first_term, last_term, literal_or, mapped_term, member_term, moved_term, named, signed_term, term_with, term_with-Applied, term_with-Attribute, term_with-Entry, term_with-Implicit, term_with-InRange, term_with-InType, term_with-Infix, term_with-Name, term_with-Number, term_with-Parenthesized, term_with-Prefix}
+use Rattle.spx_formula.specs.Terms.{element_term, field_term, first_term, last_term, literal_or, mapped_term, member_term, moved_term, named, signed_term, term_with, term_with-Applied, term_with-Attribute, term_with-Element, term_with-Entry, term_with-Implicit, term_with-InRange, term_with-InType, term_with-Infix, term_with-Name, term_with-Number, term_with-Parenthesized, term_with-Prefix, term_with-Selected}
 use Rattle.spx_formula.specs.Functions.{shift_in}
 
 -- ---- static expressions
@@ -46,8 +50,15 @@ of_number n place s e =
     cc
 
 -- the value on entry is not static
+either : (b : Bool) (x y : Option Value) → x ≡ None → y ≡ None → (if b then x else y) ≡ None
+either true x y first second = first
+either false x y first second = second
+
+no_value : (of : ExprType) → static_in of None ≡ None
+no_value of = either (is_parted of) None None refl refl
+
 not_static : (j : Judged Object) (k : Judged ⊤) (place : Place) → literal_in (j >>= λ object. k >>= λ done. Ok (typing (Of object.subtype.base) None place)) ≡ None
-not_static (Ok object) (Ok done) place = refl
+not_static (Ok object) (Ok done) place = no_value (Of object.subtype.base)
 not_static (Ok object) (Err breach) place = refl
 not_static (Err breach) k place = refl
 
@@ -65,6 +76,33 @@ at_place place (Err breach) = refl
 pub literal-Parenthesized : (place : Place) (a : CoreExpr) → literal (expr.Parenthesized place a) ≡ literal a
 literal-Parenthesized place a = ap literal_in (fold-Parenthesized expr_step place a) ∙ at_place place (judged a)
 
+-- an element and a field are not static
+after_one : (a : Judged ⊤) (of : ExprType) (place : Place) → literal_in (a >>= λ done. Ok (typing of None place)) ≡ None
+after_one (Ok done) of place = no_value of
+after_one (Err breach) of place = refl
+
+after_two : (a b : Judged ⊤) (of : ExprType) (place : Place) → literal_in (a >>= λ done. b >>= λ more. Ok (typing of None place)) ≡ None
+after_two (Ok done) b of place = after_one b of place
+after_two (Err breach) b of place = refl
+
+no_element : (x : Indexing) (j k : Judged Typing) → literal_in (j >>= λ t. k >>= λ i. element x t i) ≡ None
+no_element x (Ok t) (Ok i) = after_two (keeps N10 t.place (is_typed_at x.array t.of)) (indexed x i) (Of x.element.base) t.place
+no_element x (Ok t) (Err breach) = refl
+no_element x (Err breach) k = refl
+
+no_field : (x : Selection) (j : Judged Typing) → literal_in (j >>= λ t. selected x t) ≡ None
+no_field x (Ok t) = after_one (keeps N10 t.place (is_typed_at x.record t.of)) (Of x.field.base) t.place
+no_field x (Err breach) = refl
+
+of_none : {o : Option Value} (s : Value) (t : Term) → o ≡ None → o ≡ Some s → t ≡ static_term s
+of_none s t none e = let is : None ≡ Some s = sym none ∙ e in absurd (cc)
+
+pub element_literal : (a : CoreExpr) (place : Place) (i : CoreExpr) (x : Indexing) → literal (expr.Element a place i x) ≡ None
+element_literal a place i x = ap literal_in (fold-Element expr_step a place i x) ∙ no_element x (judged a) (judged i)
+
+pub field_literal : (a : CoreExpr) (field : Identifier) (x : Selection) → literal (expr.Selected a field x) ≡ None
+field_literal a field x = ap literal_in (fold-Selected expr_step a field x) ∙ no_field x (judged a)
+
 -- a static expression has its value for its term
 pub static_is : (present entries : VarId → Term) (e : CoreExpr) (s : Value) → literal e ≡ Some s → term_with present entries e ≡ static_term s
 static_is present entries = induct (λ e. (s : Value) → literal e ≡ Some s → term_with present entries e ≡ static_term s) (record {
@@ -79,6 +117,8 @@ static_is present entries = induct (λ e. (s : Value) → literal e ≡ Some s �
   «infix» = λ op place a b first second s is. term_with-Infix present entries op place a b ∙ or_static _ s _ is;
   in_type = λ op place a name more s is. term_with-InType present entries op place a name ∙ or_static _ s _ is;
   in_range = λ op place a low high first second third s is. term_with-InRange present entries op place a low high ∙ or_static _ s _ is;
+  element = λ a place i x first second s is. of_none s _ (element_literal a place i x) is;
+  selected = λ a field x more s is. of_none s _ (field_literal a field x) is;
 })
 
 -- ---- functions
@@ -102,6 +142,12 @@ module _ (present entries : VarId → Term) (e : CoreExpr) where
 
   pub implicit_term : (base : BaseType) (place : Place) (a : CoreExpr) → e ≡ expr.Implicit base place a → meant e ≡ meant a
   implicit_term base place a is = ap meant is ∙ term_with-Implicit present entries base place a
+
+  pub element_is : (a : CoreExpr) (place : Place) (i : CoreExpr) (x : Indexing) → e ≡ expr.Element a place i x → meant e ≡ element_term x (meant a) (meant i)
+  element_is a place i x is = ap meant is ∙ term_with-Element present entries a place i x
+
+  pub field_is : (a : CoreExpr) (field : Identifier) (x : Selection) → e ≡ expr.Selected a field x → meant e ≡ field_term x (meant a)
+  field_is a field x is = ap meant is ∙ term_with-Selected present entries a field x
 
   module _ (none : None ≡ literal e) where
     or_else : (d : CoreExpr) (t : Term) → e ≡ d → literal_or (literal d) t ≡ t

@@ -8,11 +8,14 @@ use Rattle.spx_text.specs.declared.place.Place.{Place}
 use Rattle.spx_tree.specs.declared.expression.InfixOp.{InfixOp}
 use Rattle.spx_tree.specs.declared.expression.MemberOp.{MemberOp}
 use Rattle.spx_core.specs.declared.expression.CoreExpr.{CoreExpr}
-use Rattle.spx_core.specs.declared.expression.CoreExpr.TheVariants.{Infix, InRange}
+use Rattle.spx_core.specs.declared.expression.CoreExpr.TheVariants.{Infix, InRange, Element, Selected}
 use Rattle.spx_core.specs.declared.name.CoreName.{CoreName}
+use Rattle.spx_core.specs.declared.part.Indexing.{Indexing}
+use Rattle.spx_core.specs.declared.part.Selection.{Selection}
+use Rattle.spx_tree.specs.declared.expression.Identifier.{Identifier}
 use Rattle.spx_core.specs.Effects.{Read, read_of}
 use Rattle.spx_core.specs.Reads.{names_read, names_step}
-use Rattle.spx_core.proofs.Callers.Expressions.{fold-Infix, fold-InRange}
+use Rattle.spx_core.proofs.Callers.Expressions.{fold-Element, fold-Infix, fold-InRange, fold-Selected}
 use Rattle.spx_formula.specs.declared.entered.Interface.{Interface}
 use Rattle.spx_formula.specs.EntryNames.{is_fixed_by, stays}
 
@@ -31,6 +34,12 @@ module _ (i : Interface) where
       ap all_stay (fold-InRange names_step op place a low high)
       ∙ both (names_read a) (names_read low ++ names_read high)
       ∙ ap (λ b. is_fixed_by i a && b) (both (names_read low) (names_read high))
+
+  pub fixed-Element : (a : CoreExpr) (place : Place) (index : CoreExpr) (x : Indexing) → is_fixed_by i (Element a place index x) ≡ (is_fixed_by i a && is_fixed_by i index)
+  fixed-Element a place index x = ap all_stay (fold-Element names_step a place index x) ∙ both (names_read a) (names_read index)
+
+  pub fixed-Selected : (a : CoreExpr) (field : Identifier) (x : Selection) → is_fixed_by i (Selected a field x) ≡ is_fixed_by i a
+  fixed-Selected a field x = ap all_stay (fold-Selected names_step a field x)
 
 -- what is known of the first part decides
 pub first_moves : {a v : Bool} (rest : Bool) → a ≡ false → v ≡ false → v ≡ (a && rest)

@@ -4,15 +4,16 @@ use Rattle.spx_core.specs.declared.entity.Class.{Class}
 use Rattle.spx_core.specs.declared.entity.Class.TheVariants as class
 use Rattle.spx_core.specs.declared.entity.Subtype.{Subtype}
 use Rattle.spx_term.specs.declared.term.Term.{Term}
-use Rattle.spx_term.specs.declared.term.Term.TheVariants.{Number, Infix}
+use Rattle.spx_term.specs.declared.term.Term.TheVariants.{Number, Infix, Unary}
 use Rattle.spx_term.specs.declared.term.TermOp.{TermOp}
 use Rattle.spx_term.specs.declared.term.TermOp.TheVariants.{And, GreaterOrEqual, Implies, LessOrEqual}
+use Rattle.spx_term.specs.declared.term.UnaryOp.TheVariants.{In}
 use Rattle.spx_term.specs.Goals.{goal_of}
 use Rattle.spx_formula.specs.Goals.{guarded, in_class, in_range, in_type, under}
 use Rattle.spx_formula.specs.Goals.{range_goal}
 use Rattle.spx_arena.specs.declared.terms.TermId.{TermId}
 use Rattle.spx_arena.specs.Claims.{AreIds, trees_at}
-use Rattle.spx_arena.specs.Sharing.{Adds, tree_at}
+use Rattle.spx_arena.specs.Sharing.{Adds, Grows, IsId, tree_at}
 use Rattle.spx_arena.proofs.Growth.{adds_along, grows_not, grows_twice}
 use Rattle.spx_arena.proofs.Ids.{kept_ids}
 use Rattle.spx_formula.specs.Added.{AddsAll}
@@ -23,6 +24,10 @@ all_one {old} {new} a is = record {
   within = subst (AreIds (length new)) (sym is) (a.made.within, tt);
   trees = ap (trees_at new) is ∙ ap (λ x. x ∷ []) a.made.tree;
 }
+
+-- a term that was made
+pub adds_made : {old new : List Term} {id : TermId} {t : Term} → Grows old new → IsId new id t → Adds old new id t
+adds_made g is = record { grown = g; made = is }
 
 pub adds_bound : {old new : List Term} {id : TermId} (op : TermOp) (x : Term) {m n : ℤ} → Adds old new id (Infix op x (Number m)) → m ≡ n → Adds old new id (Infix op x (Number n))
 adds_bound {old} {new} {id} op x a e = adds_along a (ap (λ k. Infix op x (Number k)) e)
@@ -47,11 +52,14 @@ pub all_along : {old new : List Term} {ids : List TermId} {ts us : List Term} �
 all_along {old} {new} {ids} a e = subst (λ xs. AddsAll old new ids xs) e a
 
 pub of_numbers : (subtype : Subtype) (t : Term) → (subtype.base.class ≡ class.Integer) ⊎ (subtype.base.class ≡ class.Enumeration) → in_range subtype.first subtype.last t ≡ in_type subtype t
-of_numbers subtype t (inl is) = ap (λ (c : Class). in_class c subtype.first subtype.last t) (sym is)
-of_numbers subtype t (inr is) = ap (λ (c : Class). in_class c subtype.first subtype.last t) (sym is)
+of_numbers subtype t (inl is) = ap (λ (c : Class). in_class c subtype.base.id.0 subtype.first subtype.last t) (sym is)
+of_numbers subtype t (inr is) = ap (λ (c : Class). in_class c subtype.base.id.0 subtype.first subtype.last t) (sym is)
 
 pub of_truth : (subtype : Subtype) (t : Term) → subtype.base.class ≡ class.Boolean → [] ≡ in_type subtype t
-of_truth subtype t is = ap (λ (c : Class). in_class c subtype.first subtype.last t) (sym is)
+of_truth subtype t is = ap (λ (c : Class). in_class c subtype.base.id.0 subtype.first subtype.last t) (sym is)
+
+pub of_parts : (subtype : Subtype) (t : Term) → subtype.base.class ≡ class.Composite → Unary (In subtype.base.id.0) t ∷ [] ≡ in_type subtype t
+of_parts subtype t is = ap (λ (c : Class). in_class c subtype.base.id.0 subtype.first subtype.last t) (sym is)
 
 -- an operation on an earlier term and one that was added
 pub adds_pair : {old mid new : List Term} {i j id : TermId} {b : Term} (op : TermOp) → i.0 < length old → Adds old mid j b → Adds mid new id (Infix op (tree_at mid i) (tree_at mid j)) → Adds old new id (Infix op (tree_at old i) b)

@@ -4,3 +4,4 @@ pub mod GoalSteps
 pub mod ChoiceIds
 pub mod Fixed
 pub mod OwnCuts
+pub mod Ways

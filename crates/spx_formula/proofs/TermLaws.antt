@@ -8,7 +8,9 @@ use Rattle.spx_term.specs.declared.term.Term.{Term}
 use Rattle.spx_term.specs.declared.term.Term.TheVariants.{Number, Infix}
 use Rattle.spx_term.specs.declared.term.TermOp.{TermOp}
 use Rattle.spx_core.specs.declared.function.Shift.{Shift}
-use Rattle.spx_formula.specs.Terms.{member_term, moved_term, signed_term}
+use Rattle.spx_core.specs.declared.part.Indexing.{Indexing}
+use Rattle.spx_core.specs.declared.part.Selection.{Selection}
+use Rattle.spx_formula.specs.Terms.{element_term, field_term, member_term, moved_term, signed_term}
 use Rattle.spx_arena.specs.declared.terms.TermId.{TermId}
 use Rattle.spx_arena.specs.Sharing.{Adds, Grows, IsId, tree_at}
 use Rattle.spx_arena.proofs.Growth.{adds_along, grows_twice}
@@ -48,3 +50,11 @@ module _ {E : Type 0} (r : Result TermId E) where
   made_member new t op p q s m e =
       made_after new t (grows_twice p.grown (grows_twice q.grown s.grown)) m
       ((λ n. member_term op (kept_later p.made (grows_twice q.grown s.grown) n) (kept_later q.made s.grown n) (s.made.tree n)) ∙ e)
+
+  -- an element and a field
+  pub made_element : {old mid late : List Term} (new : List Term) {i j : TermId} {a b : Term} (t : Term) (x : Indexing) → Adds old mid i a → Adds mid late j b → IfOk r (λ id. Adds late new id (element_term x (tree_at late i) (tree_at late j))) → element_term x a b ≡ t
+      → IfOk r (λ id. Adds old new id t)
+  made_element new t x p q m e = made_after new t (grows_twice p.grown q.grown) m ((λ k. element_term x (kept_later p.made q.grown k) (q.made.tree k)) ∙ e)
+
+  pub made_field : {old mid : List Term} (new : List Term) {i : TermId} {a : Term} (t : Term) (x : Selection) → Adds old mid i a → IfOk r (λ id. Adds mid new id (field_term x (tree_at mid i))) → field_term x a ≡ t → IfOk r (λ id. Adds old new id t)
+  made_field new t x p m e = made_after new t p.grown m (ap (field_term x) p.made.tree ∙ e)

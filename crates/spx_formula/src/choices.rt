@@ -11,7 +11,7 @@ use crate::terms::{between, negated_id, with_number};
 use spx_arena::{Node, TermId, Terms};
 use spx_core::{CoreAlternative, CoreChoice};
 use spx_term::TermOp;
-use sqlite_items::{Boxed, Items};
+use sqlite_items::Items;
 use std::alloc::{AllocError, Global};
 
 /// That a value is the one of a choice, or lies between its bounds.
@@ -86,7 +86,7 @@ fn alternative_facts(
     terms: &mut Terms,
     value: TermId,
     earlier: &mut Items<TermId>,
-    choices: &Option<Boxed<Items<CoreChoice>>>,
+    choices: &Option<Items<CoreChoice>>,
 ) -> Result<Items<TermId>, AllocError>
     requires value { value.0 < length terms.old }
     requires earlier { AreIds (length terms.old) earlier.old }
@@ -99,7 +99,7 @@ fn alternative_facts(
             Ok(facts)
         }
         Some(choices) => {
-            let chosen = choices_id(terms, value, choices.get().as_slice())?;
+            let chosen = choices_id(terms, value, choices.as_slice())?;
             earlier.push(chosen)?;
             let facts = terms.conjuncts(alloc, chosen)?;
             Ok(facts)

@@ -109,5 +109,9 @@ pub fn is_fixed(interface: &Interface, expr: &CoreExpr) -> bool
                 && is_fixed(interface, low.get())
                 && is_fixed(interface, high.get())
         }
+        CoreExpr::Element(prefix, _, index, _) => {
+            is_fixed(interface, prefix.get()) && is_fixed(interface, index.get())
+        }
+        CoreExpr::Selected(prefix, _, _) => is_fixed(interface, prefix.get()),
     }
 }

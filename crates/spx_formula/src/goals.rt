@@ -11,7 +11,7 @@ ghost use Rattle.spx_formula.specs.Added.{AddsAll};
 use crate::terms::with_number;
 use spx_arena::{Node, TermId, Terms};
 use spx_core::{Class, Subtype};
-use spx_term::TermOp;
+use spx_term::{TermOp, UnaryOp};
 use sqlite_items::Items;
 use std::alloc::{AllocError, Global};
 
@@ -46,7 +46,7 @@ pub fn in_range(
     Items::from_slice(alloc, &[low, high])
 }
 
-/// That a term lies in a type.
+/// That a term lies in a type, with its parts.
 pub fn in_type(
     alloc: Global,
     terms: &mut Terms,
@@ -61,6 +61,10 @@ pub fn in_type(
             in_range(alloc, terms, subtype.first, subtype.last, value)
         }
         Class::Boolean => Ok(Items::new(alloc)),
+        Class::Composite => {
+            let goal = terms.make(Node::Unary(UnaryOp::In(subtype.base.id.0), value))?;
+            Items::from_slice(alloc, &[goal])
+        }
     }
 }
 

@@ -2,16 +2,18 @@
 ghost use Rattle.std.specs.Prelude.{◌≡◌};
 ghost use Rattle.spx_formula.specs.Terms.{entry, first_name, last_name, now, sort_of_class, sort_of_var};
 
-use spx_core::{Class, Program, VarId};
+use spx_core::{Class, Program, TypeId, VarId};
 use spx_meaning::type_of;
 use spx_term::{Name, Sort, Symbol};
 
-fn sort_of_class(class: Class) -> Sort
-    ensures { result ≡ sort_of_class class }
+/// The sort of the values of a class.
+fn sort_of_class(class: Class, id: TypeId) -> Sort
+    ensures { result ≡ sort_of_class class id.0 }
 {
     match class {
         Class::Integer | Class::Enumeration => Sort::Integer,
         Class::Boolean => Sort::Boolean,
+        Class::Composite => Sort::Composite(id.0),
     }
 }
 
@@ -19,7 +21,8 @@ fn sort_of_class(class: Class) -> Sort
 fn sort_of_var(program: &Program, var: VarId) -> Sort
     ensures { result ≡ sort_of_var program.now var }
 {
-    sort_of_class(type_of(program, var).base.class)
+    let base = type_of(program, var).base;
+    sort_of_class(base.class, base.id)
 }
 
 /// The present value of a variable.

@@ -10,6 +10,7 @@ ghost use Rattle.spx_formula.specs.Functions.{shift_in};
 ghost use Rattle.spx_formula.specs.EntryNames.{meant, present_term};
 
 use crate::entered::{Entered, present_name};
+use crate::parts::{element_id, field_id};
 use spx_arena::{Node, TermId, Terms};
 use spx_core::{CoreExpr, CoreFunction, Entity, Program, Shift, variable_of};
 use spx_meaning::term_op;
@@ -20,7 +21,7 @@ use spx_types::application;
 use std::alloc::AllocError;
 
 /// The id of what a name denotes.
-fn name_id(
+pub fn name_id(
     program: &Program,
     entered: &Entered,
     terms: &mut Terms,
@@ -169,6 +170,15 @@ pub fn term_id(
             let low = term_id(program, entered, terms, low.get())?;
             let high = term_id(program, entered, terms, high.get())?;
             member_id(terms, *op, tested, low, high)
+        }
+        CoreExpr::Element(prefix, _, index, x) => {
+            let prefix = term_id(program, entered, terms, prefix.get())?;
+            let index = term_id(program, entered, terms, index.get())?;
+            element_id(terms, x.get(), prefix, index)
+        }
+        CoreExpr::Selected(prefix, _, x) => {
+            let prefix = term_id(program, entered, terms, prefix.get())?;
+            field_id(terms, x.get(), prefix)
         }
     }
 }

@@ -27,7 +27,7 @@ returns-in_ok-facts-in-Some-clause-facts c =
     let terms = c.args.terms.now in
     let t = tree_at terms c.args.value in
     all_along (all_parts c.in_ok-chosen-in-Some.ensures c.in_ok-facts-in-Some.ensures.ids c.in_ok-facts-in-Some.ensures.trees)
-    (ap (λ (choices : List CoreChoice). conjuncts (choices_term t choices)) (c.as_slice-in-Some.ensures ∙ c.get.ensures) ∙ ap (alternative_facts t (trees_at terms c.args.earlier.now)) (sym c.in-Some.is))
+    (ap (λ (choices : List CoreChoice). conjuncts (choices_term t choices)) c.as_slice-in-Some.ensures ∙ ap (alternative_facts t (trees_at terms c.args.earlier.now)) (sym c.in-Some.is))
 
 pub returns-in_ok-facts-in-Some-clause-earlier : goal.returns-in_ok-facts-in-Some-clause-earlier
 returns-in_ok-facts-in-Some-clause-earlier c =
@@ -35,4 +35,4 @@ returns-in_ok-facts-in-Some-clause-earlier c =
     let t = tree_at terms c.args.value in
     let earlier = trees_at terms c.args.earlier.now in
     all_along (all_push c.args.earlier.now c.in_ok-chosen-in-Some.ensures c.requires.earlier c.in_ok-push-in-Some.ensures.ok)
-    (ap (λ (choices : List CoreChoice). earlier ++ choices_term t choices ∷ []) (c.as_slice-in-Some.ensures ∙ c.get.ensures) ∙ ap (and_these t earlier) (sym c.in-Some.is))
+    (ap (λ (choices : List CoreChoice). earlier ++ choices_term t choices ∷ []) c.as_slice-in-Some.ensures ∙ ap (and_these t earlier) (sym c.in-Some.is))

@@ -1,7 +1,7 @@
 use Rattle.std.proofs.Common.{true≢false, ap, sym, ◌∙◌}
 use Rattle.std.specs.Prelude.{◌&&◌}
 use Rattle.spx_formula.specs.EntryNames.{is_fixed_by}
-use Rattle.spx_formula.proofs.Fixed.{first_moves, first_stays, fixed-InRange, fixed-Infix}
+use Rattle.spx_formula.proofs.Fixed.{first_moves, first_stays, fixed-Element, fixed-InRange, fixed-Infix}
 use Rattle.spx_formula.proofs.entered.+is_fixed.Goals.{else-is_fixed-2, then-is_fixed-2}
 use Rattle.spx_formula.proofs.entered.+is_fixed.Goals as goal
 
@@ -45,3 +45,18 @@ returns-else-is_fixed-3 t c =
           first_stays (tested ∙ w.if-is_fixed-2.true) (first_moves (is_fixed_by i at.high) low c.if-is_fixed-3.false) ∙ whole
       | else-is_fixed-2 w ↦ first_moves (is_fixed_by i at.low && is_fixed_by i at.high) (tested ∙ w.if-is_fixed-2.false) c.if-is_fixed-3.false ∙ whole
     ]
+
+pub returns-then-is_fixed-4 : goal.returns-then-is_fixed-4
+returns-then-is_fixed-4 t c =
+    let i = c.args.interface.now in
+    let at = c.in-Element in
+    let whole = ap (is_fixed_by i) (sym c.get-in-Element.ensures) ∙ sym c.is_fixed-in-Element.ensures ∙ c.if-is_fixed-4.true in
+    let index = c.is_fixed-then-is_fixed-4.ensures ∙ ap (is_fixed_by i) c.get-then-is_fixed-4.ensures in
+    first_stays whole index ∙ sym (ap (is_fixed_by i) at.is ∙ fixed-Element i at.prefix at.field-1 at.index at.field-3)
+
+pub returns-else-is_fixed-4 : goal.returns-else-is_fixed-4
+returns-else-is_fixed-4 t c =
+    let i = c.args.interface.now in
+    let at = c.in-Element in
+    let whole = ap (is_fixed_by i) (sym c.get-in-Element.ensures) ∙ sym c.is_fixed-in-Element.ensures ∙ c.if-is_fixed-4.false in
+    first_moves (is_fixed_by i at.index) whole c.if-is_fixed-4.false ∙ sym (ap (is_fixed_by i) at.is ∙ fixed-Element i at.prefix at.field-1 at.index at.field-3)

@@ -6,9 +6,9 @@ use Rattle.spx_term.specs.declared.term.Term.TheVariants.{Infix, Number}
 use Rattle.spx_core.specs.Uses.{variable_of}
 use Rattle.spx_formula.specs.declared.entered.Entered.{Entered}
 use Rattle.spx_formula.specs.EntryNames.{meant, present_term}
-use Rattle.spx_formula.specs.Terms.{member_term, moved_term, named, signed_term}
-use Rattle.spx_formula.proofs.Expressions.{applied_term, attribute_term, entry_term, implicit_term, in_range_term, in_type_term, infix_term, name_term, number_term, parenthesized_term, prefix_term, static_is}
-use Rattle.spx_formula.proofs.TermLaws.{made_along, made_by, made_infix, made_member, made_moved, made_signed, number_made}
+use Rattle.spx_formula.specs.Terms.{element_term, field_term, member_term, moved_term, named, signed_term}
+use Rattle.spx_formula.proofs.Expressions.{applied_term, attribute_term, element_is, entry_term, field_is, implicit_term, in_range_term, in_type_term, infix_term, name_term, number_term, parenthesized_term, prefix_term, static_is}
+use Rattle.spx_formula.proofs.TermLaws.{made_along, made_by, made_element, made_field, made_infix, made_member, made_moved, made_signed, number_made}
 use Rattle.spx_formula.proofs.terms.+term_id.Goals as goal
 
 pub returns-in-Some : goal.returns-in-Some
@@ -65,3 +65,15 @@ returns-in_ok-high-in-InRange t c =
     let m = meant c.args.program.now c.args.entered.now in
     made_member c.member_id-in-InRange.result _ _ c.in-InRange.op c.in_ok-tested-in-InRange.ensures c.in_ok-low-in-InRange.ensures c.in_ok-high-in-InRange.ensures c.member_id-in-InRange.ensures
     ((λ i. member_term c.in-InRange.op (m (c.get-in-InRange.ensures i)) (m (c.get-in-InRange-2.ensures i)) (m (c.get-in-InRange-3.ensures i))) ∙ sym (in_range_term _ _ _ c.in_default.ensures _ _ _ _ _ c.in-InRange.is))
+
+pub returns-in_ok-index-in-Element : goal.returns-in_ok-index-in-Element
+returns-in_ok-index-in-Element t c =
+    let m = meant c.args.program.now c.args.entered.now in
+    made_element c.element_id.result _ _ c.get-in-Element-3.result.now c.in_ok-prefix-in-Element.ensures c.in_ok-index-in-Element.ensures c.element_id.ensures
+    ((λ i. element_term (c.get-in-Element-3.ensures i) (m (c.get-in-Element.ensures i)) (m (c.get-in-Element-2.ensures i))) ∙ sym (element_is _ _ _ _ _ _ _ c.in-Element.is))
+
+pub returns-in_ok-prefix-in-Selected : goal.returns-in_ok-prefix-in-Selected
+returns-in_ok-prefix-in-Selected t c =
+    let m = meant c.args.program.now c.args.entered.now in
+    made_field c.field_id.result _ _ c.get-in-Selected-2.result.now c.in_ok-prefix-in-Selected.ensures c.field_id.ensures
+    ((λ i. field_term (c.get-in-Selected-2.ensures i) (m (c.get-in-Selected.ensures i))) ∙ sym (field_is _ _ _ _ _ _ c.in-Selected.is))
