@@ -1,0 +1,11 @@
+//! The steps of a proof.
+//!
+//! A layer above may rely on this: where the sequents that `step` gives are valid, so is the one that it was given
+//! (`step_is_valid`).
+#![tactic(auto)]
+
+mod fault;
+mod rule;
+
+pub use fault::StepFault;
+pub use rule::{Entry, Rule, RuleOf};
