@@ -5,7 +5,9 @@
 #![tactic(auto)]
 
 mod fault;
+mod laws;
 mod rule;
 
 pub use fault::StepFault;
+pub use laws::step_is_valid;
 pub use rule::{Entry, Rule, RuleOf};
