@@ -1,2 +1,2 @@
-mod Divisions
+pub mod Divisions
 mod Powers

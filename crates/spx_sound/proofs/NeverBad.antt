@@ -35,7 +35,7 @@ use Rattle.spx_term.specs.Values.{is_truth}
 use Rattle.spx_term.proofs.ValueLaws.{is_in-layer}
 use Rattle.spx_term.specs.declared.term.Sort.TheVariants.{Integer, Boolean, Composite}
 use Rattle.spx_term.specs.declared.term.Symbol.{Symbol}
-use Rattle.spx_term.specs.declared.term.Symbol.TheVariants.{Now, Entry, First, Last, Bound}
+use Rattle.spx_term.specs.declared.term.Symbol.TheVariants.{Now, Entry, First, Last, New, Bound}
 use Rattle.spx_term.specs.declared.term.Name.{Name}
 use Rattle.spx_term.specs.declared.term.Term.TheVariants.{Variable}
 use Rattle.spx_term.specs.declared.value.Value.{Value}
@@ -83,6 +83,7 @@ symbol_value p s (Now k) = reading p s (record { 0 = k })
 symbol_value p s (Entry k) = reading p s (record { 0 = k })
 symbol_value p s (First k) = value.Number (pos 0)
 symbol_value p s (Last k) = value.Number (pos 0)
+symbol_value p s (New n) = value.Number (pos 0)
 symbol_value p s (Bound b) = value.Number (pos 0)
 
 abbrev of_sort : Sort → Value → Value

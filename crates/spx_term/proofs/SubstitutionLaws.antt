@@ -5,7 +5,7 @@ use Rattle.std.proofs.lemmas.Bool.{both_ways}
 use Rattle.spx_term.specs.declared.term.Name.{Name}
 use Rattle.spx_term.specs.declared.term.BoundVariable.{BoundVariable}
 use Rattle.spx_term.specs.declared.term.Symbol.{Symbol}
-use Rattle.spx_term.specs.declared.term.Symbol.TheVariants.{Now, Entry, First, Last, Bound}
+use Rattle.spx_term.specs.declared.term.Symbol.TheVariants.{Now, Entry, First, Last, New, Bound}
 use Rattle.spx_term.specs.declared.term.TermOp.{TermOp}
 use Rattle.spx_term.specs.declared.term.TermPrefix.{TermPrefix}
 use Rattle.spx_term.specs.declared.term.UnaryOp.{UnaryOp}
@@ -207,26 +207,37 @@ deeper_injective k x y h =
     by_symbol (Now m) (Entry n) e = absurd (cc)
     by_symbol (Now m) (First n) e = absurd (cc)
     by_symbol (Now m) (Last n) e = absurd (cc)
+    by_symbol (Now m) (New n) e = absurd (cc)
     by_symbol (Now m) (Bound n) e = absurd (cc)
     by_symbol (Entry m) (Now n) e = absurd (cc)
     by_symbol (Entry m) (Entry n) e = e
     by_symbol (Entry m) (First n) e = absurd (cc)
     by_symbol (Entry m) (Last n) e = absurd (cc)
+    by_symbol (Entry m) (New n) e = absurd (cc)
     by_symbol (Entry m) (Bound n) e = absurd (cc)
     by_symbol (First m) (Now n) e = absurd (cc)
     by_symbol (First m) (Entry n) e = absurd (cc)
     by_symbol (First m) (First n) e = e
     by_symbol (First m) (Last n) e = absurd (cc)
+    by_symbol (First m) (New n) e = absurd (cc)
     by_symbol (First m) (Bound n) e = absurd (cc)
     by_symbol (Last m) (Now n) e = absurd (cc)
     by_symbol (Last m) (Entry n) e = absurd (cc)
     by_symbol (Last m) (First n) e = absurd (cc)
     by_symbol (Last m) (Last n) e = e
+    by_symbol (Last m) (New n) e = absurd (cc)
     by_symbol (Last m) (Bound n) e = absurd (cc)
+    by_symbol (New m) (Now n) e = absurd (cc)
+    by_symbol (New m) (Entry n) e = absurd (cc)
+    by_symbol (New m) (First n) e = absurd (cc)
+    by_symbol (New m) (Last n) e = absurd (cc)
+    by_symbol (New m) (New n) e = e
+    by_symbol (New m) (Bound n) e = absurd (cc)
     by_symbol (Bound m) (Now n) e = absurd (cc)
     by_symbol (Bound m) (Entry n) e = absurd (cc)
     by_symbol (Bound m) (First n) e = absurd (cc)
     by_symbol (Bound m) (Last n) e = absurd (cc)
+    by_symbol (Bound m) (New n) e = absurd (cc)
     by_symbol (Bound m) (Bound n) e =
         let same : deeper k m ≡ deeper k n = cc in
         let depths : m.depth ≡ n.depth = omega (arith, ap (λ (b : BoundVariable). b.depth) same) in
@@ -290,6 +301,7 @@ free_stays k y free = by_symbol y.symbol free
     by_symbol (Entry n) h = refl
     by_symbol (First n) h = refl
     by_symbol (Last n) h = refl
+    by_symbol (New n) h = refl
     by_symbol (Bound b) h = absurd (cc)
 
 -- a closed term has the same value under more quantifiers

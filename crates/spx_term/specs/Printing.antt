@@ -8,7 +8,7 @@ use Rattle.std.specs.Str.{byte}
 use Rattle.spx_term.specs.declared.printing.Position.{Position}
 use Rattle.spx_term.specs.declared.printing.Position.TheVariants.{Whole, OfNumbers, OfOthers, Rest}
 use Rattle.spx_term.specs.declared.term.Symbol.{Symbol}
-use Rattle.spx_term.specs.declared.term.Symbol.TheVariants.{Now, Entry, First, Last, Bound}
+use Rattle.spx_term.specs.declared.term.Symbol.TheVariants.{Now, Entry, First, Last, New, Bound}
 use Rattle.spx_term.specs.declared.term.TermOp.{TermOp}
 use Rattle.spx_term.specs.declared.term.TermOp.TheVariants as op
 use Rattle.spx_term.specs.declared.term.TermPrefix.{TermPrefix}
@@ -39,6 +39,7 @@ stem_of declared (Now n) = declared_name declared n
 stem_of declared (Entry n) = declared_name declared n
 stem_of declared (First n) = declared_name declared n
 stem_of declared (Last n) = declared_name declared n
+stem_of declared (New n) = declared_name declared n.variable
 stem_of declared (Bound b) = declared_name declared b.variable
 
 -- what follows that name
@@ -47,9 +48,10 @@ suffix_of (Now n) = []
 suffix_of (Entry n) = codes "~"
 suffix_of (First n) = codes "!first"
 suffix_of (Last n) = codes "!last"
+suffix_of (New n) = codes "!" ++ decimal n.number
 suffix_of (Bound b) = codes "#" ++ decimal b.depth
 
--- `X`, `X~`, `I!first`, `I!last`, `I#1`
+-- `X`, `X~`, `I!first`, `I!last`, `I!1`, `I#1`
 unfoldable pub symbol_text : List (List ℕ) → Symbol → List ℕ
 symbol_text declared s = stem_of declared s ++ suffix_of s
 
@@ -219,12 +221,13 @@ pub record AreApart (declared : List (List ℕ)) : Type 0 where
   pub identifiers : AllPass is_identifier declared
   pub differ : (m n : ℕ) → m < length declared → n < length declared → declared_name declared m ≡ declared_name declared n → m ≡ n
 
--- a symbol whose variable has a name; depths are machine numbers
+-- a symbol whose variable has a name; depths and the numbers of new names are machine numbers
 abbrev pub IsNamed : List (List ℕ) → Symbol → Type 0
 IsNamed declared (Now n) = n < length declared
 IsNamed declared (Entry n) = n < length declared
 IsNamed declared (First n) = n < length declared
 IsNamed declared (Last n) = n < length declared
+IsNamed declared (New n) = (n.variable < length declared) × (n.number < 2 ^ 64)
 IsNamed declared (Bound b) = (b.variable < length declared) × (b.depth < 2 ^ 64)
 
 -- two symbols that are printed as one text are equal

@@ -3,7 +3,7 @@ use Rattle.std.specs.Prelude.{◌≡◌, ℕ, ◌+◌, Bool, true, false, not, �
 use Rattle.spx_term.specs.declared.term.BoundVariable.{BoundVariable}
 use Rattle.spx_term.specs.declared.term.Name.{Name}
 use Rattle.spx_term.specs.declared.term.Symbol.{Symbol}
-use Rattle.spx_term.specs.declared.term.Symbol.TheVariants.{Now, Entry, First, Last, Bound}
+use Rattle.spx_term.specs.declared.term.Symbol.TheVariants.{Now, Entry, First, Last, New, Bound}
 use Rattle.spx_term.specs.declared.term.TernaryOp.{TernaryOp}
 use Rattle.spx_term.specs.declared.term.TernaryOp.TheVariants as ternary
 use Rattle.spx_term.specs.declared.term.Term.{Term, Term-F, fold-Term}
@@ -22,6 +22,7 @@ is_free (Now n) = true
 is_free (Entry n) = true
 is_free (First n) = true
 is_free (Last n) = true
+is_free (New n) = true
 is_free (Bound b) = false
 
 -- whether an operation gives a name values of its own
@@ -59,6 +60,7 @@ deeper_symbol k (Now n) = Now n
 deeper_symbol k (Entry n) = Entry n
 deeper_symbol k (First n) = First n
 deeper_symbol k (Last n) = Last n
+deeper_symbol k (New n) = New n
 deeper_symbol k (Bound b) = Bound (deeper k b)
 
 abbrev pub deeper_name : ℕ → Name → Name

@@ -39,6 +39,7 @@ fn deeper_name(name: Name, levels: usize) -> Result<Name, AllocError>
         Symbol::Entry(_) => Ok(name),
         Symbol::First(_) => Ok(name),
         Symbol::Last(_) => Ok(name),
+        Symbol::New(_) => Ok(name),
         Symbol::Bound(bound) => {
             let symbol = Symbol::Bound(deeper(bound, levels)?);
             Ok(Name { symbol, sort })
@@ -58,8 +59,8 @@ fn deeper_op(op: TernaryOp, levels: usize) -> Result<TernaryOp, AllocError>
     }
 }
 
-/// The term under so many more quantifiers.
-fn raised(alloc: Global, term: &Term, levels: usize) -> Result<Boxed<Term>, AllocError>
+/// The term under so many more quantifiers. One of more than `MOST_LEVELS` levels is refused.
+pub fn raised(alloc: Global, term: &Term, levels: usize) -> Result<Boxed<Term>, AllocError>
     ensures { IfOk result (λ r. r ≡ spec.raised levels term.now) }
 {
     raise(alloc, term, levels, MOST_LEVELS)
