@@ -1,11 +1,15 @@
 // What is read of a composite value.
 ghost use Rattle.std.specs.Prelude.{◌≡◌, IfOk};
+ghost use Rattle.spx_term.specs.declared.reading.Reading.TheVariants as reading;
 ghost use Rattle.spx_term.specs.Values as values;
 ghost use Rattle.spx_term.specs.Folding as spec;
 
+use crate::term::boxed_copy;
 use crate::{
     ArrayType, BinaryOp, Component, FieldName, Literal, Quantifier, Term, TernaryOp, UnaryOp,
+    boxed_binary, boxed_number, boxed_unary,
 };
+use sqlite_items::Boxed;
 use std::alloc::{AllocError, Global};
 
 /// What is read of a composite value.
@@ -111,18 +115,29 @@ fn at_index(array: ArrayType, wanted: i128, index: i128) -> Found
 }
 
 /// The term that reads.
-pub fn read(alloc: Global, reading: Reading, term: &Term) -> Result<Term, AllocError>
+pub fn read(alloc: Global, reading: Reading, term: &Term) -> Result<Boxed<Term>, AllocError>
     ensures { IfOk result (λ r. r ≡ spec.read reading term.now) }
 {
-    let value = term.copy(alloc)?;
+    let value = boxed_copy(alloc, term)?;
     match reading {
-        Reading::Element(array, index) => {
-            Term::binary(alloc, BinaryOp::Element(array), value, Term::Number(index))
-        }
+        Reading::Element(array, index) => read_at(alloc, array, value, index),
         Reading::Field(field, component) => {
-            Term::unary(alloc, UnaryOp::Field(field, component), value)
+            boxed_unary(alloc, UnaryOp::Field(field, component), value)
         }
     }
+}
+
+/// `a[i]` for a number i
+fn read_at(
+    alloc: Global,
+    array: ArrayType,
+    value: Boxed<Term>,
+    index: i128,
+) -> Result<Boxed<Term>, AllocError>
+    ensures { IfOk result (λ r. r ≡ spec.read (reading.Element array index) value) }
+{
+    let index = boxed_number(alloc, index)?;
+    boxed_binary(alloc, BinaryOp::Element(array), value, index)
 }
 
 /// What a quantifier over no number is.
