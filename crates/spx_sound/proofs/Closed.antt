@@ -84,15 +84,15 @@ infix_closed : (o : TermOp) (a b : Term) → IsClosed a → IsClosed b → IsClo
 unfolding reads
 infix_closed o a b first second y h = either_reads a b first second y (read_so y (fold-Infix reads_step o a b) h)
 
-unary_closed : (o : UnaryOp) (a : Term) → IsClosed a → IsClosed (term.Unary o a)
+pub unary_closed : (o : UnaryOp) (a : Term) → IsClosed a → IsClosed (term.Unary o a)
 unfolding reads
 unary_closed o a closed y h = closed y (read_so y (fold-Unary reads_step o a) h)
 
-binary_closed : (o : BinaryOp) (a b : Term) → IsClosed a → IsClosed b → IsClosed (term.Binary o a b)
+pub binary_closed : (o : BinaryOp) (a b : Term) → IsClosed a → IsClosed b → IsClosed (term.Binary o a b)
 unfolding reads
 binary_closed o a b first second y h = either_reads a b first second y (read_so y (fold-Binary reads_step o a b) h)
 
-update_closed : (id : ℕ) (a b c : Term) → IsClosed a → IsClosed b → IsClosed c → IsClosed (term.Ternary (ternary.Update id) a b c)
+pub update_closed : (id : ℕ) (a b c : Term) → IsClosed a → IsClosed b → IsClosed c → IsClosed (term.Ternary (ternary.Update id) a b c)
 unfolding reads
 update_closed id a b c first second third y h = by_part (reads a y) (reads b y) (reads c y) refl refl refl (read_so y (fold-Ternary reads_step (ternary.Update id) a b c) h)
   where
@@ -190,18 +190,18 @@ now_closed p x = variable_closed (now p x) refl
 pub code_closed : (p : Program) (e : CoreExpr) → IsClosed (term_of p (now_term p) e)
 code_closed p e = term_closed (now_term p) (now_term p) (now_closed p) (now_closed p) e
 
--- the term of a value with another part
-pub put_closed : (p : Program) (way : List PartStep) (a e : Term) → IsClosed a → IsClosed e → IsClosed (with_end_term (map (step_of p (now_term p)) way) a e)
-put_closed p [] a e whole closed = closed
-put_closed p (part.Index place i x ∷ way) a e whole closed =
+-- the term of the value with another part at the end of a way
+pub with_end_closed : (p : Program) (way : List PartStep) (a e : Term) → IsClosed a → IsClosed e → IsClosed (with_end_term (map (step_of p (now_term p)) way) a e)
+with_end_closed p [] a e whole closed = closed
+with_end_closed p (part.Index place i x ∷ way) a e whole closed =
     let index = term_of p (now_term p) i in
     let inner = part_term (step_of p (now_term p) (part.Index place i x)) a in
     update_closed x.array.0 a index (with_end_term (map (step_of p (now_term p)) way) inner e) whole (code_closed p i)
-    (put_closed p way inner e (binary_closed (binary.Element (array_of x)) a index whole (code_closed p i)) closed)
-put_closed p (part.Field field x ∷ way) a e whole closed =
+    (with_end_closed p way inner e (binary_closed (binary.Element (array_of x)) a index whole (code_closed p i)) closed)
+with_end_closed p (part.Field field x ∷ way) a e whole closed =
     let inner = part_term (step_of p (now_term p) (part.Field field x)) a in
     binary_closed (binary.Update (field_name x)) a (with_end_term (map (step_of p (now_term p)) way) inner e) whole
-    (put_closed p way inner e (unary_closed (unary.Field (field_name x) (component_of x.field)) a whole) closed)
+    (with_end_closed p way inner e (unary_closed (unary.Field (field_name x) (component_of x.field)) a whole) closed)
 
 -- the variable that is assigned, as a whole
 pub root_closed : (p : Program) (o : Option VarId) → IsClosed (named (now_term p) o)
