@@ -1,5 +1,5 @@
 -- Terms of programs read no variable of a quantifier.
-use Rattle.std.proofs.Common.{◌≡◌, ℤ, pos, Bool, true, false, ◌||◌, if◌then◌else◌, Option, Some, None, Ok, Err, refl, sym, ap, ◌∙◌, subst}
+use Rattle.std.proofs.Common.{◌≡◌, ℕ, ℤ, pos, List, [], ◌∷◌, map, Bool, true, false, ◌||◌, if◌then◌else◌, Option, Some, None, Ok, Err, refl, sym, ap, ◌∙◌, subst}
 use Rattle.spx_tree.specs.declared.expression.MemberOp.{MemberOp}
 use Rattle.spx_tree.specs.declared.expression.MemberOp.TheVariants as member_op
 use Rattle.spx_tree.specs.declared.expression.PrefixOp.{PrefixOp}
@@ -7,6 +7,8 @@ use Rattle.spx_tree.specs.declared.expression.PrefixOp.TheVariants as prefix
 use Rattle.spx_core.specs.declared.entity.VarId.{VarId}
 use Rattle.spx_core.specs.declared.expression.CoreExpr.{CoreExpr}
 use Rattle.spx_core.specs.declared.expression.CoreExpr.TheVariants.{Name as Named, Attribute, Applied, Prefix, Infix, InType, InRange}
+use Rattle.spx_core.specs.declared.part.PartStep.{PartStep}
+use Rattle.spx_core.specs.declared.part.PartStep.TheVariants as part
 use Rattle.spx_core.specs.declared.function.Mapping.{Mapping}
 use Rattle.spx_core.specs.declared.function.Shift.{Shift}
 use Rattle.spx_core.specs.declared.function.Shift.TheVariants as shift
@@ -20,6 +22,11 @@ use Rattle.spx_core.proofs.Callers.Expressions.{Cases, induct}
 use Rattle.spx_term.specs.declared.term.Name.{Name}
 use Rattle.spx_term.specs.declared.term.Term.{Term}
 use Rattle.spx_term.specs.declared.term.Term.TheVariants as term
+use Rattle.spx_term.specs.declared.term.BinaryOp.{BinaryOp}
+use Rattle.spx_term.specs.declared.term.BinaryOp.TheVariants as binary
+use Rattle.spx_term.specs.declared.term.TernaryOp.TheVariants as ternary
+use Rattle.spx_term.specs.declared.term.UnaryOp.{UnaryOp}
+use Rattle.spx_term.specs.declared.term.UnaryOp.TheVariants as unary
 use Rattle.spx_term.specs.declared.term.TermOp.{TermOp}
 use Rattle.spx_term.specs.declared.term.TermOp.TheVariants as operator
 use Rattle.spx_term.specs.declared.term.TermPrefix.{TermPrefix}
@@ -29,13 +36,15 @@ use Rattle.spx_term.specs.declared.value.Literal.TheVariants as literals
 use Rattle.spx_term.specs.declared.value.Value.{Value}
 use Rattle.spx_term.specs.Folding.{static_term, term_of as literal_term}
 use Rattle.spx_term.specs.Substitution.{is_free, reads, reads_step, IsClosed}
+use Rattle.spx_term.specs.Parts.{part_term, with_end_term}
 use Rattle.spx_term.specs.Values.{literal_in}
 use Rattle.spx_term.proofs.Equality.{same_name-Decides}
-use Rattle.spx_term.proofs.Terms.{fold-Number, fold-Truth, fold-Variable, fold-Prefix, fold-Infix}
+use Rattle.spx_term.proofs.Terms.{fold-Number, fold-Truth, fold-Variable, fold-Prefix, fold-Infix, fold-Unary, fold-Binary, fold-Ternary}
 use Rattle.spx_meaning.specs.Evaluation.{term_op}
 use Rattle.spx_meaning.specs.Literals.{literal}
-use Rattle.spx_meaning.specs.Stores.{type_of}
-use Rattle.spx_formula.specs.Terms.{first_name, last_name, first_term, last_term, member_term, between, named, now, now_term, literal_or, moved_term, signed_term, term_of, term_with, term_with-Number, term_with-Parenthesized, term_with-Implicit, term_with-Prefix, term_with-Infix, term_with-InType, term_with-InRange, term_with-Name, term_with-Entry, term_with-Attribute, mapped_term, term_with-Applied}
+use Rattle.spx_meaning.specs.Parts.{array_of, field_name}
+use Rattle.spx_meaning.specs.Stores.{component_of, type_of}
+use Rattle.spx_formula.specs.Terms.{first_name, last_name, first_term, last_term, member_term, between, named, now, now_term, literal_or, moved_term, signed_term, term_of, term_with, term_with-Number, term_with-Parenthesized, term_with-Implicit, term_with-Prefix, term_with-Infix, term_with-InType, term_with-InRange, term_with-Name, term_with-Entry, term_with-Attribute, mapped_term, term_with-Applied, term_with-Element, term_with-Selected, step_of}
 use Rattle.spx_paths.specs.Walks.{bound_term, is_fixed, low_term, high_term, next_term, start_term}
 
 -- a name of the program may take the value of the term
@@ -59,18 +68,39 @@ pub variable_closed : (x : Name) → is_free x.symbol ≡ true → IsClosed (ter
 unfolding reads
 variable_closed x free y h = ap (λ (name : Name). is_free name.symbol) (sym ((same_name-Decides x y).0 (read_so y (fold-Variable reads_step x) h))) ∙ free
 
+either_reads : (a b : Term) → IsClosed a → IsClosed b → (y : Name) → (reads a y || reads b y) ≡ true → is_free y.symbol ≡ true
+either_reads a b first second y h = by_part (reads a y) (reads b y) refl refl h
+  where
+    by_part : (p q : Bool) → reads a y ≡ p → reads b y ≡ q → (p || q) ≡ true → is_free y.symbol ≡ true
+    by_part true q here there h = first y here
+    by_part false true here there h = second y there
+    by_part false false here there h = absurd (cc)
+
 prefix_closed : (o : TermPrefix) (a : Term) → IsClosed a → IsClosed (term.Prefix o a)
 unfolding reads
 prefix_closed o a closed y h = closed y (read_so y (fold-Prefix reads_step o a) h)
 
 infix_closed : (o : TermOp) (a b : Term) → IsClosed a → IsClosed b → IsClosed (term.Infix o a b)
 unfolding reads
-infix_closed o a b first second y h = by_part (reads a y) (reads b y) refl refl (read_so y (fold-Infix reads_step o a b) h)
+infix_closed o a b first second y h = either_reads a b first second y (read_so y (fold-Infix reads_step o a b) h)
+
+pub unary_closed : (o : UnaryOp) (a : Term) → IsClosed a → IsClosed (term.Unary o a)
+unfolding reads
+unary_closed o a closed y h = closed y (read_so y (fold-Unary reads_step o a) h)
+
+pub binary_closed : (o : BinaryOp) (a b : Term) → IsClosed a → IsClosed b → IsClosed (term.Binary o a b)
+unfolding reads
+binary_closed o a b first second y h = either_reads a b first second y (read_so y (fold-Binary reads_step o a b) h)
+
+pub update_closed : (id : ℕ) (a b c : Term) → IsClosed a → IsClosed b → IsClosed c → IsClosed (term.Ternary (ternary.Update id) a b c)
+unfolding reads
+update_closed id a b c first second third y h = by_part (reads a y) (reads b y) (reads c y) refl refl refl (read_so y (fold-Ternary reads_step (ternary.Update id) a b c) h)
   where
-    by_part : (p q : Bool) → reads a y ≡ p → reads b y ≡ q → (p || q) ≡ true → is_free y.symbol ≡ true
-    by_part true q here there h = first y here
-    by_part false true here there h = second y there
-    by_part false false here there h = absurd (cc)
+    by_part : (p q r : Bool) → reads a y ≡ p → reads b y ≡ q → reads c y ≡ r → (p || (q || r)) ≡ true → is_free y.symbol ≡ true
+    by_part true q r here there last h = first y here
+    by_part false true r here there last h = second y there
+    by_part false false true here there last h = third y last
+    by_part false false false here there last h = absurd (cc)
 
 literal_closed : (l : Literal) → IsClosed (literal_term l)
 literal_closed (literals.Number n) = number_closed n
@@ -146,6 +176,8 @@ module _ (present entered : VarId → Term) (presents : (x : VarId) → IsClosed
     in_range = λ o place a low high h k m.
         closed_or (InRange o place a low high) (member_term o (the_term a) (the_term low) (the_term high)) (term_with-InRange present entered o place a low high)
         (member_closed o (the_term a) (the_term low) (the_term high) h k m);
+    element = λ a place i x h k. subst IsClosed (sym (term_with-Element present entered a place i x)) (binary_closed (binary.Element (array_of x)) (the_term a) (the_term i) h k);
+    selected = λ a field x h. subst IsClosed (sym (term_with-Selected present entered a field x)) (unary_closed (unary.Field (field_name x) (component_of x.field)) (the_term a) h);
   }
 
   term_closed : (e : CoreExpr) → HasClosedTerm e
@@ -157,6 +189,23 @@ now_closed p x = variable_closed (now p x) refl
 -- the term of an expression in code
 pub code_closed : (p : Program) (e : CoreExpr) → IsClosed (term_of p (now_term p) e)
 code_closed p e = term_closed (now_term p) (now_term p) (now_closed p) (now_closed p) e
+
+-- the term of the value with another part at the end of a way
+pub with_end_closed : (p : Program) (way : List PartStep) (a e : Term) → IsClosed a → IsClosed e → IsClosed (with_end_term (map (step_of p (now_term p)) way) a e)
+with_end_closed p [] a e whole closed = closed
+with_end_closed p (part.Index place i x ∷ way) a e whole closed =
+    let index = term_of p (now_term p) i in
+    let inner = part_term (step_of p (now_term p) (part.Index place i x)) a in
+    update_closed x.array.0 a index (with_end_term (map (step_of p (now_term p)) way) inner e) whole (code_closed p i)
+    (with_end_closed p way inner e (binary_closed (binary.Element (array_of x)) a index whole (code_closed p i)) closed)
+with_end_closed p (part.Field field x ∷ way) a e whole closed =
+    let inner = part_term (step_of p (now_term p) (part.Field field x)) a in
+    binary_closed (binary.Update (field_name x)) a (with_end_term (map (step_of p (now_term p)) way) inner e) whole
+    (with_end_closed p way inner e (unary_closed (unary.Field (field_name x) (component_of x.field)) a whole) closed)
+
+-- the variable that is assigned, as a whole
+pub root_closed : (p : Program) (o : Option VarId) → IsClosed (named (now_term p) o)
+root_closed p o = named_closed (now_term p) (now_closed p) o
 
 -- ---- loops over a parameter
 

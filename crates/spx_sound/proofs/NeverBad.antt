@@ -25,14 +25,12 @@ use Rattle.spx_core.specs.FlowRules.{HasNoFinding, body_effect, read, left}
 use Rattle.spx_core.specs.Rules.{ObeysRules}
 use Rattle.spx_core.specs.Scopes.{Scoped, StartsInType, TypesHaveValues, kind_of, object_declared, object_in}
 use Rattle.spx_core.specs.Effects.{counts, defines, effect, reads}
-use Rattle.spx_core.specs.Types.{has_truths, is_between, is_true}
+use Rattle.spx_core.specs.Types.{has_truths, is_between, is_true, has_parts}
 use Rattle.spx_core.specs.Ways.{Goes}
 use Rattle.spx_term.specs.declared.condition.CondKind.TheVariants.{Post as PostCondition}
 use Rattle.spx_term.specs.declared.term.Sort.{Sort}
-use Rattle.spx_term.specs.declared.value.Shape.{Shape-F}
-use Rattle.spx_term.specs.declared.value.Shape.TheVariants as shape
-use Rattle.spx_term.specs.Values.{is_truth}
-use Rattle.spx_term.proofs.ValueLaws.{is_in-layer}
+use Rattle.spx_term.specs.Values.{Types, is_in as looks_so, first_value as first_of_shape}
+use Rattle.spx_term.proofs.ValueLaws.{first_is_in}
 use Rattle.spx_term.specs.declared.term.Sort.TheVariants.{Integer, Boolean, Composite}
 use Rattle.spx_term.specs.declared.term.Symbol.{Symbol}
 use Rattle.spx_term.specs.declared.term.Symbol.TheVariants.{Now, Entry, First, Last, New, Bound}
@@ -46,7 +44,7 @@ use Rattle.spx_term.specs.Equality.{same_name}
 use Rattle.spx_term.specs.Folding.{static_term}
 use Rattle.spx_term.proofs.Terms.{value-Variable}
 use Rattle.spx_meaning.specs.declared.bad.BadKind.TheVariants.{Pre, Post, Unset}
-use Rattle.spx_meaning.specs.Stores.{Store, look, type_of, first_of_class, is_in, is_within, declared, put, reading, seen}
+use Rattle.spx_meaning.specs.Stores.{Store, look, type_of, first_of_class, is_in, declared, put, reading, seen, is_of_class, types_of}
 use Rattle.spx_meaning.specs.Frames.{Frame, around}
 use Rattle.spx_meaning.specs.Annotations.{truth}
 use Rattle.spx_meaning.specs.Runs.{Outcome, Ended, then_do, demand, run, is_new_kind, starts_new, entry_of, pre_holds, demand_pre, demand_post, exports_set, call, cleared, initial_value, value_in_type}
@@ -56,20 +54,23 @@ use Rattle.spx_meaning.proofs.Callers.Evaluation.{meant_same}
 use Rattle.spx_meaning.proofs.Callers.Scopes.{mode_is, new_is, inner_is, inner_starts, local_is_inner, loop_parameter_is_inner, own_is}
 use Rattle.spx_meaning.proofs.Callers.Stores.{look-put_other}
 use Rattle.spx_meaning.proofs.Callers.Types.{type_is}
-use Rattle.spx_formula.specs.Terms.{now, entry, now_term, entry_term, sort_of_class, sort_of_var}
+use Rattle.spx_formula.specs.Terms.{now, entry, now_term, entry_term, sort_of_class, sort_of_var, sort_of_base}
 use Rattle.spx_paths.specs.Checks.{in_type}
 use Rattle.spx_paths.specs.Walks.{ending, ending_with, entering, first_facts, import_facts, initializing, keeps_value, pre_facts, starting_with, walk}
 use Rattle.spx_paths.specs.Fit.{HasValidConditions, Fit}
+use Rattle.spx_sound.proofs.NeverBadSets.{AreInTypes}
+use Rattle.spx_sound.proofs.SafeTrees.{safe_sub}
+use Rattle.spx_sound.proofs.Starts.{declared_initial, starts_plain}
+use Rattle.spx_sound.proofs.Sorts.{type_sorted}
+use Rattle.spx_core.specs.Parts.{TypesAreMade}
 use Rattle.spx_core.proofs.Callers.ListTests.{each_append}
 use Rattle.spx_sound.proofs.Typings.{TypedSub, typed_subs}
 use Rattle.spx_sound.proofs.CleanConditions.{all_sorted}
-use Rattle.spx_sound.proofs.NeverBadTrees.{AllHold, changed, Safe, each_flat_map, assumed, safe_sub}
+use Rattle.spx_sound.proofs.NeverBadTrees.{AllHold, changed, Safe, each_flat_map, assumed}
 use Rattle.spx_sound.proofs.NeverBadRuns.{Never, Nowhere, Good, good_then, good_demand, joined}
-use Rattle.spx_sound.proofs.NeverBadExpressions.{type_facts, AgreesWith, IsScalar, static_term_value}
+use Rattle.spx_sound.proofs.NeverBadExpressions.{type_facts, AgreesWith, plain_value}
 use Rattle.spx_sound.proofs.NeverBadAnnotations.{now_terms, parts_where_true}
-use Rattle.spx_sound.proofs.Extents.{AreInTypes}
 use Rattle.spx_term.proofs.Equality.{same_name-Decides}
-use Rattle.spx_formula.specs.Looks.{no_composites}
 use Rattle.spx_sound.proofs.NeverBadStores.{Fits, Reaches, Spares, asserted_good}
 use Rattle.spx_sound.proofs.NeverBadLoops.{Began}
 use Rattle.spx_sound.proofs.NeverBadBodies.{walk_good}
@@ -86,63 +87,68 @@ symbol_value p s (Last k) = value.Number (pos 0)
 symbol_value p s (New n) = value.Number (pos 0)
 symbol_value p s (Bound b) = value.Number (pos 0)
 
-abbrev of_sort : Sort → Value → Value
-of_sort Integer w = value.Number (as_number w)
-of_sort Boolean w = value.Truth (as_truth w)
-of_sort (Composite id) w = value.Truth false
-
-scalar_of_sort : (of : Sort) (w : Value) → IsScalar (of_sort of w)
-scalar_of_sort Integer w = refl
-scalar_of_sort Boolean w = refl
-scalar_of_sort (Composite id) w = refl
+abbrev of_sort : Types → Sort → Value → Value
+of_sort types Integer w = value.Number (as_number w)
+of_sort types Boolean w = value.Truth (as_truth w)
+of_sort types (Composite id) w = if looks_so false (types id) w then w else first_of_shape (types id)
 
 -- each name has the value that its variable counts as in the store
 abbrev valuation_of : Program → Store → Valuation
-valuation_of p s name = of_sort name.sort (symbol_value p s name.symbol)
+valuation_of p s name = of_sort (types_of p) name.sort (symbol_value p s name.symbol)
 
-has_sort : (of : Sort) (w : Value) → HasSort no_composites of (of_sort of w)
-has_sort Integer w = tt
-has_sort Boolean w = tt
-has_sort (Composite id) w = is_in-layer false shape.Boolean Shape-F.Boolean shape.outs-Boolean (value.Truth false) ∙ ap is_truth (value.outs-Truth false)
+has_sort : (types : Types) (of : Sort) (w : Value) → HasSort types of (of_sort types of w)
+has_sort types Integer w = tt
+has_sort types Boolean w = tt
+has_sort types (Composite id) w = by_test (looks_so false (types id) w) refl
+  where
+    by_test : (b : Bool) → looks_so false (types id) w ≡ b → looks_so false (types id) (if b then w else first_of_shape (types id)) ≡ true
+    by_test true is = is
+    by_test false is = first_is_in (types id)
 
-valuation_respects : (p : Program) (s : Store) → Respects no_composites (valuation_of p s)
-valuation_respects p s name = has_sort name.sort (symbol_value p s name.symbol)
+valuation_respects : (p : Program) (s : Store) → Respects (types_of p) (valuation_of p s)
+valuation_respects p s name = has_sort (types_of p) name.sort (symbol_value p s name.symbol)
+
+-- a value of a sort stays as it is
+keeps_sort : (types : Types) (of : Sort) (w : Value) → HasSort types of w → of_sort types of w ≡ w
+keeps_sort types Integer (value.Number n) h = refl
+keeps_sort types Integer _ h = absurd h
+keeps_sort types Boolean (value.Truth b) h = refl
+keeps_sort types Boolean _ h = absurd h
+keeps_sort types (Composite id) w h = ap (λ b. if b then w else first_of_shape (types id)) h
 
 -- a value of a class has its sort
-has_class : (c : Class) (first last : _) (w : Value) → is_within c first last w ≡ true → of_sort (sort_of_class c) w ≡ w
-has_class class.Integer first last (value.Number n) h = refl
-has_class class.Integer first last _ h = absurd (cc)
-has_class class.Boolean first last (value.Truth b) h = refl
-has_class class.Boolean first last _ h = absurd (cc)
-has_class class.Enumeration first last (value.Number n) h = refl
-has_class class.Enumeration first last _ h = absurd (cc)
+has_class : (types : Types) (c : Class) (id : ℕ) (first last : ℤ) (w : Value) → is_of_class types c id first last w ≡ true → of_sort types (sort_of_class c id) w ≡ w
+has_class types c id first last w h = keeps_sort types (sort_of_class c id) w (type_sorted types c id first last w h)
 
-first_has_class : (c : Class) (first : _) → of_sort (sort_of_class c) (first_of_class c first) ≡ first_of_class c first
-first_has_class class.Integer first = refl
-first_has_class class.Boolean first = refl
-first_has_class class.Enumeration first = refl
+first_has_class : (types : Types) (c : Class) (id : ℕ) (first : ℤ) → of_sort types (sort_of_class c id) (first_of_class types c id first) ≡ first_of_class types c id first
+first_has_class types class.Integer id first = refl
+first_has_class types class.Boolean id first = refl
+first_has_class types class.Enumeration id first = refl
+first_has_class types class.Composite id first = keeps_sort types (Composite id) (first_of_shape (types id)) (first_is_in (types id))
 
 -- the value that a static one of a class stands for has the sort of the class, and lies between two ends where the static one does
-static_has_class : (c : Class) (n : ℤ) → let w = if has_truths c then value.Truth (is_true n) else value.Number n in of_sort (sort_of_class c) w ≡ w
-static_has_class class.Integer n = refl
-static_has_class class.Boolean n = refl
-static_has_class class.Enumeration n = refl
+static_has_class : (types : Types) (c : Class) (id : ℕ) (n : ℤ) → has_parts c ≡ false → let w = if has_truths c then value.Truth (is_true n) else value.Number n in of_sort types (sort_of_class c id) w ≡ w
+static_has_class types class.Integer id n plain = refl
+static_has_class types class.Boolean id n plain = refl
+static_has_class types class.Enumeration id n plain = refl
+static_has_class types class.Composite id n plain = absurd (cc)
 
-static_within : (c : Class) (first last n : ℤ) → is_between first last n ≡ true → is_within c first last (if has_truths c then value.Truth (is_true n) else value.Number n) ≡ true
-static_within class.Integer first last n h = h
-static_within class.Boolean first last n h = refl
-static_within class.Enumeration first last n h = h
+static_within : (types : Types) (c : Class) (id : ℕ) (first last n : ℤ) → has_parts c ≡ false → is_between first last n ≡ true → is_of_class types c id first last (if has_truths c then value.Truth (is_true n) else value.Number n) ≡ true
+static_within types class.Integer id first last n plain h = h
+static_within types class.Boolean id first last n plain h = refl
+static_within types class.Enumeration id first last n plain h = h
+static_within types class.Composite id first last n plain h = absurd (cc)
 
 -- each variable that is set has a value of its sort
 abbrev HaveTheirSorts : Program → Store → Type 0
-HaveTheirSorts p s = (x : VarId) (w : Value) → look s x ≡ Some w → of_sort (sort_of_var p x) w ≡ w
+HaveTheirSorts p s = (x : VarId) (w : Value) → look s x ≡ Some w → of_sort (types_of p) (sort_of_var p x) w ≡ w
 
 valuation_agrees : (p : Program) (s : Store) → HaveTheirSorts p s → AgreesWith p s (valuation_of p s)
 valuation_agrees p s sorted x = by_value (look s x) (sorted x)
   where
-    by_value : (o : Option Value) → ((w : Value) → o ≡ Some w → of_sort (sort_of_var p x) w ≡ w) → of_sort (sort_of_var p x) (seen (type_of p x) o) ≡ seen (type_of p x) o
+    by_value : (o : Option Value) → ((w : Value) → o ≡ Some w → of_sort (types_of p) (sort_of_var p x) w ≡ w) → of_sort (types_of p) (sort_of_var p x) (seen (types_of p) (type_of p x) o) ≡ seen (types_of p) (type_of p x) o
     by_value (Some w) sorted = sorted w refl
-    by_value None sorted = first_has_class (type_of p x).base.class (type_of p x).first
+    by_value None sorted = first_has_class (types_of p) (type_of p x).base.class (type_of p x).base.id.0 (type_of p x).first
 
 some_of : (o : Option Value) → IsSome o → (w : Value) × (o ≡ Some w)
 some_of (Some w) h = (w, refl)
@@ -162,24 +168,27 @@ module _ (p : Program) (s : Store) where
   abbrev the_valuation : Valuation
   the_valuation = valuation_of p s
 
-  entered : (sub : Sub) (vars : List VarId) (rest : Tree) → Safe (entering p sub vars rest) the_valuation → Safe rest the_valuation
+  entered : (sub : Sub) (vars : List VarId) (rest : Tree) → Safe (types_of p) (entering p sub vars rest) the_valuation → Safe (types_of p) rest the_valuation
   entered sub [] rest safe = safe
   entered sub (x ∷ vars) rest safe = entered sub vars rest (by_export (exports x sub) safe)
     where
-      by_export : (b : Bool) → Safe (if b then Assign (now p x) (Variable (entry p x)) (entering p sub vars rest) else entering p sub vars rest) the_valuation → Safe (entering p sub vars rest) the_valuation
+      by_export : (b : Bool) → Safe (types_of p) (if b then Assign (now p x) (Variable (entry p x)) (entering p sub vars rest) else entering p sub vars rest) the_valuation → Safe (types_of p) (entering p sub vars rest) the_valuation
       by_export true safe =
-          subst (Safe (entering p sub vars rest)) (unchanged the_valuation (now p x) (value_of no_composites the_valuation (Variable (entry p x))) (sym (value-Variable no_composites the_valuation (entry p x)))) safe
+          subst (Safe (types_of p) (entering p sub vars rest)) (unchanged the_valuation (now p x) (value_of (types_of p) the_valuation (Variable (entry p x))) (sym (value-Variable (types_of p) the_valuation (entry p x)))) safe
       by_export false safe = safe
 
   -- so does a local that starts with its value
-  started : AgreesWith p s the_valuation → (vars : List VarId) (rest : Tree) → ((x : VarId) → stands_in x vars ≡ true → look s x ≡ initial_value p x) → Safe (initializing p vars rest) the_valuation → Safe rest the_valuation
+  started : AgreesWith p s the_valuation → (vars : List VarId) (rest : Tree) → ((x : VarId) → stands_in x vars ≡ true → look s x ≡ initial_value p x) → Safe (types_of p) (initializing p vars rest) the_valuation → Safe (types_of p) rest the_valuation
   started agrees [] rest start safe = safe
   started agrees (x ∷ vars) rest start safe =
       started agrees vars rest (λ y h. start y (or_right (x.0 == y.0) (stands_in y vars) h))
-      (by_value (initial_value p x) (agrees x ∙ ap (seen (type_of p x)) (start x (or_left (x.0 == x.0) (stands_in x vars) (eq-eqb x.0 x.0 refl)))) safe)
+      (by_value (initial_of x p) (agrees x ∙ ap (seen (types_of p) (type_of p x)) (start x (or_left (x.0 == x.0) (stands_in x vars) (eq-eqb x.0 x.0 refl)))) safe)
     where
-      by_value : (o : Option Value) → the_valuation (now p x) ≡ seen (type_of p x) o → Safe (starting_with (now p x) o (initializing p vars rest)) the_valuation → Safe (initializing p vars rest) the_valuation
-      by_value (Some w) is safe = subst (Safe (initializing p vars rest)) (unchanged the_valuation (now p x) (value_of no_composites the_valuation (static_term w)) (is ∙ sym (static_term_value the_valuation w (subst IsScalar is (scalar_of_sort _ _))))) safe
+      by_value : (o : Option ℤ) → the_valuation (now p x) ≡ seen (types_of p) (type_of p x) (option_map (value_in_type (type_of p x)) o) → Safe (types_of p) (starting_with (now p x) (option_map (value_in_type (type_of p x)) o) (initializing p vars rest)) the_valuation
+          → Safe (types_of p) (initializing p vars rest) the_valuation
+      by_value (Some n) is safe =
+          let w = value_in_type (type_of p x) n in
+          subst (Safe (types_of p) (initializing p vars rest)) (unchanged the_valuation (now p x) (value_of (types_of p) the_valuation (static_term w)) (is ∙ sym (plain_value (types_of p) the_valuation (has_truths (type_of p x).base.class) n))) safe
       by_value None is safe = safe
 
 -- ---- initial values
@@ -191,24 +200,6 @@ initial_is p x kind is = by_var (declared p x) is
     by_var : (o : Option Var) → option_map (λ (var : Var). var.kind) o ≡ Some kind → option_and_then (λ (var : Var). initial_in var.kind) o ≡ initial_in kind
     by_var (Some var) is = ap initial_in (let e : var.kind ≡ kind = cc in e)
     by_var None is = absurd (cc)
-
-initialized : (kind : VarKind) (n : ℤ) → initial_in kind ≡ Some n → kind ≡ Initialized n
-initialized (Formal mode) n is = absurd (cc)
-initialized Local n is = absurd (cc)
-initialized (Initialized m) n is = ap Initialized (let e : m ≡ n = cc in e)
-initialized LoopParameter n is = absurd (cc)
-
--- a variable with an initial value is declared with it
-declared_initial : (p : Program) (x : VarId) (object : Object) (n : ℤ) → object_declared p x ≡ Some object → initial_of x p ≡ Some n → object.kind ≡ Initialized n
-declared_initial p x object n is initial = by_var (declared p x) is initial
-  where
-    by_row : (kind : VarKind) (o : Option TypeRow) → option_map (λ (row : TypeRow). record { kind = kind; subtype = row.subtype }) o ≡ Some object → initial_in kind ≡ Some n → object.kind ≡ Initialized n
-    by_row kind (Some row) is initial = (let e : object.kind ≡ kind = cc in e) ∙ initialized kind n initial
-    by_row kind None is initial = absurd (cc)
-
-    by_var : (o : Option Var) → option_and_then (object_in p) o ≡ Some object → option_and_then (λ (var : Var). initial_in var.kind) o ≡ Some n → object.kind ≡ Initialized n
-    by_var (Some var) is initial = by_row var.kind (slice_get p.types var.type_id.0) is initial
-    by_var None is initial = absurd (cc)
 
 -- a variable that is none of these keeps its value
 cleared_other : (p : Program) (s : Store) (vars : List VarId) (w : VarId) → stands_in w vars ≡ false → look (cleared p s vars) w ≡ look s w
@@ -223,7 +214,7 @@ cleared_other p s (v ∷ vars) w none =
 
 -- ---- a call
 
-module _ (p : Program) (sub : Sub) (scoped : Scoped p sub) (initial : StartsInType p sub) (types : TypesHaveValues p) (obeys : ObeysRules p sub) where
+module _ (p : Program) (sub : Sub) (scoped : Scoped p sub) (initial : StartsInType p sub) (types : TypesHaveValues p) (table : TypesAreMade p) (obeys : ObeysRules p sub) where
   -- what is imported is set on entry
   import_starts_set : (x : VarId) → imports x sub ≡ true → starts_new p x ≡ false
   import_starts_set x import =
@@ -269,26 +260,26 @@ module _ (p : Program) (sub : Sub) (scoped : Scoped p sub) (initial : StartsInTy
     kept_import : (x : VarId) → imports x sub ≡ true → look first x ≡ look s x
     kept_import x import = cleared_keeps p s sub.vars x (import_starts_set x import)
 
-    set_import : (x : VarId) → imports x sub ≡ true → (w : Value) × (look first x ≡ Some w) × (is_in (type_of p x) w ≡ true)
+    set_import : (x : VarId) → imports x sub ≡ true → (w : Value) × (look first x ≡ Some w) × (is_in (types_of p) (type_of p x) w ≡ true)
     set_import x import =
         let set = some_of (look s x) (start.imports_set x import) in
-        (set.0, kept_import x import ∙ set.1, subst (λ o. IfSome o (λ u. IsTrue (is_in (type_of p x) u))) set.1 (start.in_types x))
+        (set.0, kept_import x import ∙ set.1, subst (λ o. IfSome o (λ u. IsTrue (is_in (types_of p) (type_of p x) u))) set.1 (start.in_types x))
 
     -- what is set at the start was set before, in its type, or is a local that is declared with its value
-    first_value : (x : VarId) (w : Value) → look first x ≡ Some w → (is_in (type_of p x) w ≡ true) ⊎ (n : ℤ) × (is_local x sub ≡ true) × (initial_of x p ≡ Some n) × (w ≡ value_in_type (type_of p x) n)
+    first_value : (x : VarId) (w : Value) → look first x ≡ Some w → (is_in (types_of p) (type_of p x) w ≡ true) ⊎ (n : ℤ) × (is_local x sub ≡ true) × (initial_of x p ≡ Some n) × (w ≡ value_in_type (type_of p x) n)
     first_value x w is = elim (cleared_part p s sub.vars x w is) [ inl before ↦ inl (was_in before) | inr after ↦ by_initial (initial_of x p) refl after ]
       where
-        was_in : look s x ≡ Some w → is_in (type_of p x) w ≡ true
-        was_in before = subst (λ o. IfSome o (λ u. IsTrue (is_in (type_of p x) u))) before (start.in_types x)
+        was_in : look s x ≡ Some w → is_in (types_of p) (type_of p x) w ≡ true
+        was_in before = subst (λ o. IfSome o (λ u. IsTrue (is_in (types_of p) (type_of p x) u))) before (start.in_types x)
 
         by_own : (n : ℤ) → initial_of x p ≡ Some n → w ≡ value_in_type (type_of p x) n → (formal local counted : Bool) → is_formal x sub ≡ formal → is_local x sub ≡ local → is_loop_parameter x sub ≡ counted
-            → (is_in (type_of p x) w ≡ true) ⊎ (n : ℤ) × (is_local x sub ≡ true) × (initial_of x p ≡ Some n) × (w ≡ value_in_type (type_of p x) n)
+            → (is_in (types_of p) (type_of p x) w ≡ true) ⊎ (n : ℤ) × (is_local x sub ≡ true) × (initial_of x p ≡ Some n) × (w ≡ value_in_type (type_of p x) n)
         by_own n given same formal true counted f l k = inr (n, l, given, same)
         by_own n given same true false counted f l k = absurd (let none = formal_starts_without x f in cc)
         by_own n given same false false true f l k = absurd (let none = parameter_starts_without x k in cc)
         by_own n given same false false false f l k = inl (was_in (sym (cleared_other p s sub.vars x (own_is x sub ∙ ap₂ ◌||◌ f (inner_is x sub ∙ ap₂ ◌||◌ l k))) ∙ is))
 
-        by_initial : (o : Option ℤ) → initial_of x p ≡ o → option_map (value_in_type (type_of p x)) o ≡ Some w → (is_in (type_of p x) w ≡ true) ⊎ (n : ℤ) × (is_local x sub ≡ true) × (initial_of x p ≡ Some n) × (w ≡ value_in_type (type_of p x) n)
+        by_initial : (o : Option ℤ) → initial_of x p ≡ o → option_map (value_in_type (type_of p x)) o ≡ Some w → (is_in (types_of p) (type_of p x) w ≡ true) ⊎ (n : ℤ) × (is_local x sub ≡ true) × (initial_of x p ≡ Some n) × (w ≡ value_in_type (type_of p x) n)
         by_initial (Some n) given after = by_own n given (let e : w ≡ value_in_type (type_of p x) n = cc in e) (is_formal x sub) (is_local x sub) (is_loop_parameter x sub) refl refl refl
         by_initial None given after = absurd (cc)
 
@@ -296,8 +287,8 @@ module _ (p : Program) (sub : Sub) (scoped : Scoped p sub) (initial : StartsInTy
     first_sorted x w is =
         let of = type_of p x in
         elim (first_value x w is) [
-          | inl before ↦ has_class of.base.class of.first of.last w before
-          | inr here ↦ subst (λ u. of_sort (sort_of_class of.base.class) u ≡ u) (sym here.3) (static_has_class of.base.class here.0)
+          | inl before ↦ has_class (types_of p) of.base.class of.base.id.0 of.first of.last w before
+          | inr here ↦ subst (λ u. of_sort (types_of p) (sort_of_base of.base) u ≡ u) (sym here.3) (static_has_class (types_of p) of.base.class of.base.id.0 here.0 (starts_plain p sub scoped initial x here.0 here.1 here.2))
         ]
 
     first_in_types : AreInTypes p first
@@ -308,21 +299,22 @@ module _ (p : Program) (sub : Sub) (scoped : Scoped p sub) (initial : StartsInTy
               let row = scoped.local_types x here.1 in
               let object = row.0 in
               let of = type_is p x object row.1 in
-              let between = initial x object here.0 here.1 row.1 (declared_initial p x object here.0 row.1 here.2) in
-              subst (λ (t : Subtype). is_in t w ≡ true) (sym of)
-              (subst (λ u. is_in object.subtype u ≡ true) (sym (here.3 ∙ ap (λ (t : Subtype). value_in_type t here.0) of)) (static_within object.subtype.base.class object.subtype.first object.subtype.last here.0 between))
+              let own = object.subtype in
+              let starts = initial x object here.0 here.1 row.1 (declared_initial p x object here.0 row.1 here.2) in
+              subst (λ (t : Subtype). is_in (types_of p) t w ≡ true) (sym of)
+              (subst (λ u. is_in (types_of p) own u ≡ true) (sym (here.3 ∙ ap (λ (t : Subtype). value_in_type t here.0) of)) (static_within (types_of p) own.base.class own.base.id.0 own.first own.last here.0 starts.0 starts.1))
         ]
 
     first_agrees : AgreesWith p first first_valuation
     first_agrees = valuation_agrees p first first_sorted
 
     -- at the start the terms of the values on entry have these values
-    first_anchored : (x : VarId) → value_of no_composites first_valuation (entry_term p sub x) ≡ reading p first x
+    first_anchored : (x : VarId) → value_of (types_of p) first_valuation (entry_term p sub x) ≡ reading p first x
     first_anchored x = by_import (keeps_value sub x)
       where
-        by_import : (b : Bool) → value_of no_composites first_valuation (if b then now_term p x else Variable (entry p x)) ≡ reading p first x
-        by_import true = value-Variable no_composites first_valuation (now p x) ∙ first_agrees x
-        by_import false = value-Variable no_composites first_valuation (entry p x) ∙ first_agrees x
+        by_import : (b : Bool) → value_of (types_of p) first_valuation (if b then now_term p x else Variable (entry p x)) ≡ reading p first x
+        by_import true = value-Variable (types_of p) first_valuation (now p x) ∙ first_agrees x
+        by_import false = value-Variable (types_of p) first_valuation (entry p x) ∙ first_agrees x
 
     first_fits : Fits frame [] first first_valuation
     first_fits = record { agrees = first_agrees; respects = valuation_respects p first; in_types = first_in_types; anchored = first_anchored; inside = tt }
@@ -333,36 +325,36 @@ module _ (p : Program) (sub : Sub) (scoped : Scoped p sub) (initial : StartsInTy
         ap as_truth (meant_same frame (around p sub s) refl first s pre.condition (λ x used. kept_import x (obeys.precondition pre x is used)) (λ x used. kept_import x (obeys.precondition pre x is used))) ∙ h
 
     first_began : Began frame
-    first_began = record { types = types; in_types = first_in_types; precondition = pre_first sub.pre refl start.precondition }
+    first_began = record { types = types; made = table; in_types = first_in_types; precondition = pre_first sub.pre refl start.precondition }
 
     -- ---- checks
 
     -- the facts at the start hold
-    import_holds : (x : VarId) → AllHold first_valuation (import_facts p sub x)
+    import_holds : (x : VarId) → AllHold (types_of p) first_valuation (import_facts p sub x)
     import_holds x = by_import (imports x sub) refl
       where
-        by_import : (b : Bool) → imports x sub ≡ b → AllHold first_valuation (if b then in_type (type_of p x) (now_term p x) else [])
+        by_import : (b : Bool) → imports x sub ≡ b → AllHold (types_of p) first_valuation (if b then in_type (type_of p x) (now_term p x) else [])
         by_import true import =
             let set = set_import x import in
-            type_facts first_valuation (type_of p x) (now_term p x) set.0
-            (value-Variable no_composites first_valuation (now p x) ∙ first_agrees x ∙ ap (seen (type_of p x)) set.1) set.2
+            type_facts (types_of p) first_valuation (type_of p x) (now_term p x) set.0
+            (value-Variable (types_of p) first_valuation (now p x) ∙ first_agrees x ∙ ap (seen (types_of p) (type_of p x)) set.1) set.2
         by_import false is = tt
 
-    pre_facts_hold : (pre : Option CorePredicate) → pre_holds frame pre first ≡ true → AllHold first_valuation (pre_facts p sub pre)
+    pre_facts_hold : (pre : Option CorePredicate) → pre_holds frame pre first ≡ true → AllHold (types_of p) first_valuation (pre_facts p sub pre)
     pre_facts_hold None h = tt
     pre_facts_hold (Some pre) h = parts_where_true frame first first_valuation (now_term p) (entry_term p sub) (now_terms p first first_valuation first_agrees) first_anchored pre.condition h
 
     abbrev body_tree : Tree
     body_tree = walk p sub (commands sub.statements) (ending p sub) (ending p sub) 0
 
-    body_safe : TypedSub sub → HasValidConditions p sub → Safe body_tree first_valuation
+    body_safe : TypedSub sub → HasValidConditions p sub → Safe (types_of p) body_tree first_valuation
     body_safe typed valid =
         let known = assume_all (first_facts p sub) body_tree in
-        let local = entered p first sub (formals sub) (initializing p (locals sub) known) (safe_sub p sub (all_sorted p sub scoped typed) valid first_valuation (valuation_respects p first)).0 in
+        let local = entered p first sub (formals sub) (initializing p (locals sub) known) (safe_sub p sub (all_sorted p sub table scoped initial typed) valid first_valuation (valuation_respects p first)).0 in
         let whole = started p first first_agrees (locals sub) known (λ x is. inner_starts p sub scoped x (local_is_inner x sub is) s) local in
-        assumed (first_facts p sub) body_tree first_valuation
-        (each_append (λ t. Holds no_composites t first_valuation) (flat_map (import_facts p sub) (formals sub)) (pre_facts p sub sub.pre)
-        (each_flat_map (λ t. Holds no_composites t first_valuation) (import_facts p sub) import_holds (formals sub)) (pre_facts_hold sub.pre (pre_first sub.pre refl start.precondition))) whole
+        assumed (types_of p) (first_facts p sub) body_tree first_valuation
+        (each_append (λ t. Holds (types_of p) t first_valuation) (flat_map (import_facts p sub) (formals sub)) (pre_facts p sub sub.pre)
+        (each_flat_map (λ t. Holds (types_of p) t first_valuation) (import_facts p sub) import_holds (formals sub)) (pre_facts_hold sub.pre (pre_first sub.pre refl start.precondition))) whole
 
     -- ---- unset variables
 
@@ -435,7 +427,7 @@ module _ (p : Program) (sub : Sub) (scoped : Scoped p sub) (initial : StartsInTy
     body_good : HasNoFinding p sub → TypedSub sub → HasValidConditions p sub → (n : ℕ) → Good Never (body_run n) IsDone Nowhere
     body_good flows typed valid n =
         joined (body_run n) (Reaches frame [] (ending p sub)) (Passes (CountsUnset IsParameter) (Goes (body_effect sub)) first) (Reaches frame [] (ending p sub)) Nowhere
-        (walk_good frame first_began (commands sub.statements) [] n (ending p sub) (ending p sub) 0 first first_valuation typed.statements scoped.body_names import_is_spared obeys.loops_keep_them (λ v respects. (safe_sub p sub (all_sorted p sub scoped typed) valid v respects).1) first_fits (body_safe typed valid))
+        (walk_good frame first_began (commands sub.statements) [] n (ending p sub) (ending p sub) 0 first first_valuation typed.statements scoped.body_names scoped.body_parts import_is_spared obeys.loops_keep_them (λ v respects. (safe_sub p sub (all_sorted p sub table scoped initial typed) valid v respects).1) first_fits (body_safe typed valid))
         (never_unset frame types (commands sub.statements) obeys.exits IsParameter parameters_keep n first (first_clear flows))
 
     pre_good : (pre : Option CorePredicate) → pre_holds frame pre first ≡ true → demand_pre frame pre first ≡ Ended first
@@ -443,7 +435,7 @@ module _ (p : Program) (sub : Sub) (scoped : Scoped p sub) (initial : StartsInTy
     pre_good (Some pre) h = ap (λ b. demand b Pre pre.place first) h
 
     -- there the postcondition is true
-    post_good : (post : Option CorePredicate) (t : Store) (v : Valuation) → Fits frame [] t v → Safe (ending_with p sub post) v → Good Never (demand_post frame post t) (λ t. ⊤) Nowhere
+    post_good : (post : Option CorePredicate) (t : Store) (v : Valuation) → Fits frame [] t v → Safe (types_of p) (ending_with p sub post) v → Good Never (demand_post frame post t) (λ t. ⊤) Nowhere
     post_good None t v fits safe = tt
     post_good (Some post) t v fits safe =
         good_demand Never (truth frame t post.condition) Post post.place t (λ t. ⊤) Nowhere tt
@@ -464,6 +456,6 @@ module _ (p : Program) (sub : Sub) (scoped : Scoped p sub) (initial : StartsInTy
 
 -- ---- programs
 
-pub never_bad : (p : Program) → All (Scoped p) p.subs → All (StartsInType p) p.subs → TypesHaveValues p → All (ObeysRules p) p.subs → Fit p → NeverBad p
-never_bad p scoped initial types obeys fit k d within =
-    is_never_bad p (get_or p.subs k d) (scoped k d within) (initial k d within) types (obeys k d within) (fit.flows k d within) (typed_subs p fit.typed k d within) (fit.conditions k d within)
+pub never_bad : (p : Program) → All (Scoped p) p.subs → All (StartsInType p) p.subs → TypesHaveValues p → TypesAreMade p → All (ObeysRules p) p.subs → Fit p → NeverBad p
+never_bad p scoped initial types table obeys fit k d within =
+    is_never_bad p (get_or p.subs k d) (scoped k d within) (initial k d within) types table (obeys k d within) (fit.flows k d within) (typed_subs p fit.typed k d within) (fit.conditions k d within)
