@@ -26,11 +26,10 @@ use Rattle.spx_core.specs.declared.function.OperandType.TheVariants.{ValueOf}
 use Rattle.spx_core.specs.declared.function.Shift.{Shift}
 use Rattle.spx_core.specs.declared.rule.ExprType.{ExprType}
 use Rattle.spx_core.specs.declared.rule.ExprType.TheVariants.{Universal, Of}
-use Rattle.spx_core.specs.declared.rule.RuleName.{RuleName}
 use Rattle.spx_core.specs.declared.rule.RuleName.TheVariants.{N3, N10, N12, N14, N18}
 use Rattle.spx_core.specs.declared.rule.Typing.{Typing}
 use Rattle.spx_core.specs.HasType.{HasType, number, name, entered, attribute_of, applied, parenthesized, converted, signed, operated, in_type, in_range, element_of, selected_of}
-use Rattle.spx_core.specs.Judged.{Judged, ◌>>=◌, keeps, standing_at, value_at, function_at, attribute_function, applied_form, application, attribute, attribute_of as end_of, has_attribute, indexed, is_attribute, is_word, judged, named_object, named_type, typing}
+use Rattle.spx_core.specs.Judged.{◌>>=◌, keeps, standing_at, value_at, function_at, attribute_function, applied_form, application, attribute, attribute_of as end_of, has_attribute, indexed, is_attribute, is_word, judged, named_object, named_type, typing}
 use Rattle.spx_core.specs.Types.{both_held, has_literals, has_numbers, has_parts, has_truths, is_boolean, is_held, is_typed_at, lies_in, lies_in_operand, lies_within, member_value, result_of, right_type, signed_result, three_fit, is_number, is_numeric, is_of, is_parted, is_taken, left_type, meet, met, operand_fits, operands_fit, result_type, same_class, shifted_value}
 use Rattle.spx_core.proofs.Judgements.{bound, kept, ok_is}
 use Rattle.spx_core.proofs.TypedLaws.{sound}

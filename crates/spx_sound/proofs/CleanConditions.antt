@@ -38,8 +38,8 @@ use Rattle.spx_term.proofs.Terms as terms
 use Rattle.spx_meaning.specs.Stores.{type_of, types_of}
 use Rattle.spx_meaning.specs.Runs.{initial_value, value_in_type}
 use Rattle.spx_formula.specs.Terms.{now, now_term, entry, entry_term, term_of, term_with}
-use Rattle.spx_paths.specs.Checks.{in_type, checks}
-use Rattle.spx_paths.specs.Walks.{as_far_as_cut, count_facts, cut_facts, cuts, cuts_for, end_of_turn, entry_facts, inside, leaving, from_cut, loop_cut, noted_cut, pre_facts_on_entry, var_facts, assigned, walk, entering, import_facts, pre_facts, first_facts, ending, ending_with, start_tree, trees_of, alternative_facts, and_these, initializing, starting_with, walk_for, set_tree}
+use Rattle.spx_paths.specs.Checks.{in_type}
+use Rattle.spx_paths.specs.Walks.{as_far_as_cut, count_facts, cut_facts, cuts, cuts_for, end_of_turn, entry_facts, inside, leaving, from_cut, loop_cut, noted_cut, pre_facts_on_entry, var_facts, walk, entering, import_facts, pre_facts, first_facts, ending, ending_with, start_tree, trees_of, alternative_facts, and_these, initializing, starting_with, walk_for, set_tree}
 use Rattle.spx_paths.specs.Conditions.{body_claims, numbered, conditions_of, ArePlain}
 use Rattle.spx_paths.specs.Fit.{IsValid, HasValidConditions, Fit, Clean}
 use Rattle.std.proofs.lemmas.Bool.{eq-eqb, or_left, or_right}

@@ -2,19 +2,17 @@
 use Rattle.std.proofs.Common.{◌≡◌, ℕ, pos, Bool, true, false, not, ◌&&◌, ◌||◌, if◌then◌else◌, List, [], ◌∷◌, get_or, Option, Some, None, refl, sym, ap, ap₂, ◌∙◌, subst, ℤ, ◌==◌, inl, inr}
 use Rattle.std.proofs.lemmas.Bool.{and_parts, both_ways, false_from_ne_true, or_parts, or_left, or_right, eq-eqb}
 use Rattle.std.proofs.Math.Bool.{or-false}
-use Rattle.std.specs.Prelude.{⊤, All, IsSome, IfSome, is_some, IsTrue, ◌⊎◌, option_and_then, option_map, slice_get}
+use Rattle.std.specs.Prelude.{⊤, All, IsSome, IfSome, is_some, IsTrue, ◌⊎◌, option_and_then, option_map}
 use Rattle.std.specs.List.{flat_map, list_all}
 use Rattle.spx_core.specs.declared.entity.Class.{Class}
 use Rattle.spx_core.specs.declared.entity.Class.TheVariants as class
 use Rattle.spx_core.specs.declared.entity.VarId.{VarId}
-use Rattle.spx_core.specs.declared.entity.VarKind.TheVariants.{Formal, Local, Initialized, LoopParameter}
+use Rattle.spx_core.specs.declared.entity.VarKind.TheVariants.{Formal, LoopParameter}
 use Rattle.spx_core.specs.declared.entity.VarKind.{VarKind}
 use Rattle.spx_core.specs.declared.program.Program.{Program}
-use Rattle.spx_core.specs.declared.program.TypeRow.{TypeRow}
 use Rattle.spx_core.specs.declared.program.Var.{Var}
 use Rattle.spx_core.specs.declared.entity.Mode.{Mode}
 use Rattle.spx_core.specs.declared.entity.Mode.TheVariants as mode
-use Rattle.spx_core.specs.declared.entity.Object.{Object}
 use Rattle.spx_core.specs.declared.entity.Subtype.{Subtype}
 use Rattle.spx_core.specs.declared.subprogram.CorePredicate.{CorePredicate}
 use Rattle.spx_core.specs.declared.subprogram.Sub.{Sub}
@@ -23,7 +21,7 @@ use Rattle.spx_core.specs.Dependency.{exports, imports}
 use Rattle.spx_core.specs.Formals.{formals, mode_of, initial_in, initial_of, is_formal, is_inner, is_local, is_loop_parameter, locals, stands_in}
 use Rattle.spx_core.specs.FlowRules.{HasNoFinding, body_effect, read, left}
 use Rattle.spx_core.specs.Rules.{ObeysRules}
-use Rattle.spx_core.specs.Scopes.{Scoped, StartsInType, TypesHaveValues, kind_of, object_declared, object_in}
+use Rattle.spx_core.specs.Scopes.{Scoped, StartsInType, TypesHaveValues, kind_of}
 use Rattle.spx_core.specs.Effects.{counts, defines, effect, reads}
 use Rattle.spx_core.specs.Types.{has_truths, is_between, is_true, has_parts}
 use Rattle.spx_core.specs.Ways.{Goes}
