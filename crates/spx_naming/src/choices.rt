@@ -58,13 +58,13 @@ pub fn resolve_listed(
     alloc: Global,
     choices: &Option<Boxed<Items<Choice>>>,
     scope: &Scope<'_>,
-) -> Result<Option<Boxed<Items<CoreChoice>>>, AllocError>
+) -> Result<Option<Items<CoreChoice>>, AllocError>
     ensures { IfOk result (λ r. r ≡ option_map (map (resolved_choice (seen scope.now))) choices.now) }
 {
     match choices {
         Some(choices) => {
             let resolved = resolve_choices(alloc, choices.get().as_slice(), scope)?;
-            Ok(Some(Boxed::new(alloc, resolved)?))
+            Ok(Some(resolved))
         }
         None => Ok(None),
     }

@@ -10,7 +10,9 @@ use crate::names::declare;
 use crate::parts::{resolve_constraint, resolve_type_name};
 use crate::tables::add_variables;
 use spx_context::type_given;
-use spx_core::{CoreCount, CoreScheme, Defining, Entity, Reference, Var, VarId, VarKind};
+use spx_core::{
+    CoreCount, CoreRange, CoreScheme, Defining, Entity, Reference, Var, VarId, VarKind,
+};
 use spx_scope::{Region, Scope};
 use spx_tree::{Count, Identifier, Scheme};
 use sqlite_items::{Boxed, Items};
@@ -33,6 +35,16 @@ fn declare_parameter(
     let defined = declare(alloc, region, outer, entity, name)?;
     add_variables(alloc, vars, slice::from_ref(&defined))?;
     Ok(defined)
+}
+
+/// The bounds of a loop, out of their box.
+fn in_place(bounds: Option<Boxed<CoreRange>>) -> Option<CoreRange>
+    ensures { result ≡ bounds }
+{
+    match bounds {
+        Some(range) => Some(range.into_inner()),
+        None => None,
+    }
 }
 
 /// The parameter of a loop. Its name is hidden in what is said of it, and declared from then on.
@@ -61,7 +73,7 @@ fn resolve_count(
             word: count.word,
             is_reverse: count.is_reverse,
             type_name: type_name.into_inner(),
-            bounds,
+            bounds: in_place(bounds),
         },
     )
 }

@@ -2,7 +2,7 @@
 ghost use Rattle.std.specs.Prelude.{◌≡◌, ◌∷◌, ◌++◌, [], IfOk, length, map, option_map};
 ghost use Rattle.std.specs.List.{flat_map};
 ghost use Rattle.spx_core.specs.declared.statement.CoreStmt.TheVariants as stmt;
-ghost use Rattle.spx_core.specs.Resolved.{exported_names, in_order, parameters_by, parameters_by_alternative, parameters_by_arm, parameters_by_stmts, place_of_null, resolved_alternative, resolved_arm, resolved_choice, resolved_condition, resolved_derives, resolved_expr, resolved_item, resolved_predicate, resolved_reference, resolved_stmt, resolved_stmts, type_named, var_of};
+ghost use Rattle.spx_core.specs.Resolved.{exported_names, in_order, parameters_by, parameters_by_alternative, parameters_by_arm, parameters_by_stmts, place_of_null, resolved_alternative, resolved_arm, resolved_choice, resolved_condition, resolved_derives, resolved_expr, resolved_item, resolved_predicate, resolved_reference, resolved_stmt, resolved_stmts, resolved_target, type_named, var_of};
 ghost use Rattle.spx_scope.specs.Seen.{seen};
 
 use crate::changed::Changed;
@@ -14,7 +14,7 @@ use crate::schemes::resolve_scheme;
 use spx_context::type_given;
 use spx_core::{
     CoreAlternative, CoreArm, CoreChoice, CoreDerives, CoreDerivesItem, CoreExpr, CorePredicate,
-    CoreScheme, CoreStmt, Reference, Var,
+    CoreScheme, CoreStmt, Reference, Target, Var,
 };
 use spx_scope::{Region, Scope};
 use spx_text::Place;
@@ -77,7 +77,7 @@ fn resolve_choices(
     choices: &Option<Boxed<Items<Choice>>>,
     region: &Region,
     outer: &Scope<'_>,
-) -> Result<Option<Boxed<Items<CoreChoice>>>, AllocError>
+) -> Result<Option<Items<CoreChoice>>, AllocError>
     ensures { IfOk result (λ r. r ≡ option_map (map (resolved_choice (region.now ∷ seen outer.now))) choices.now) }
 {
     resolve_listed(alloc, choices, &Scope::inside(region, outer))
@@ -107,6 +107,25 @@ fn resolve_alternatives(
     Boxed::new(alloc, resolved)
 }
 
+/// A name that is assigned to. No part is resolved.
+fn resolve_target(
+    alloc: Global,
+    name: &Name,
+    scope: &Scope<'_>,
+) -> Result<Boxed<Target>, AllocError>
+    ensures { IfOk result (λ r. r ≡ resolved_target (seen scope.now) name.now) }
+{
+    let reference = resolve_reference(alloc, name, scope)?;
+    Boxed::new(
+        alloc,
+        Target {
+            root: reference.root,
+            way: Items::new(alloc),
+            rest: reference.way,
+        },
+    )
+}
+
 fn resolve_assignment(
     alloc: Global,
     target: &Name,
@@ -114,12 +133,11 @@ fn resolve_assignment(
     region: &Region,
     outer: &Scope<'_>,
 ) -> Result<CoreStmt, AllocError>
-    ensures { IfOk result (λ r. r ≡ stmt.Assignment (resolved_reference (region.now ∷ seen outer.now) target.now) (resolved_expr (type_named (region.now ∷ seen outer.now) target.now) (region.now ∷ seen outer.now) value.now)) }
+    ensures { IfOk result (λ r. r ≡ stmt.Assignment (resolved_target (region.now ∷ seen outer.now) target.now) (resolved_expr (type_named (region.now ∷ seen outer.now) target.now) (region.now ∷ seen outer.now) value.now)) }
 {
     let scope = Scope::inside(region, outer);
-    let target = resolve_reference(alloc, target, &scope)?;
-    let of = type_given(target.root.entity);
-    let target = Boxed::new(alloc, target)?;
+    let target = resolve_target(alloc, target, &scope)?;
+    let of = type_given(target.get().root.entity);
     let value = resolve_expr(alloc, of, value, &scope)?;
     Ok(CoreStmt::Assignment(target, value))
 }

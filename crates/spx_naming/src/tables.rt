@@ -1,11 +1,12 @@
 // The tables of a program: its variables and its types.
 ghost use Rattle.std.specs.Prelude.{◌≡◌, ◌∷◌, ◌++◌, [], IfOk, OnOk, map};
+ghost use Rattle.spx_core.specs.declared.program.TypeForm.TheVariants.{Scalar};
 ghost use Rattle.spx_core.specs.Resolved.{row_of, standard_types, var_of};
 
 use crate::meaning::subtype_of;
 use spx_core::{
-    BOOLEAN, Defining, Entity, INTEGER, NATURAL, POSITIVE, Subtype, TypeRow, UNIVERSAL, Var,
-    VarKind,
+    BOOLEAN, Defining, Entity, INTEGER, NATURAL, POSITIVE, Subtype, TypeForm, TypeRow, UNIVERSAL,
+    Var, VarKind,
 };
 use spx_text::Text;
 use sqlite_items::Items;
@@ -18,17 +19,21 @@ pub struct Tables {
     pub types: Items<TypeRow>,
 }
 
-/// One more predefined type.
+/// One more predefined type. It has no parts.
 fn add_type(
     alloc: Global,
     types: &mut Items<TypeRow>,
     name: &[u8],
     subtype: Subtype,
 ) -> Result<(), AllocError>
-    ensures { OnOk result (types.new ≡ types.old ++ (record { name = name.now; subtype = subtype }) ∷ []) }
+    ensures { OnOk result (types.new ≡ types.old ++ (record { name = name.now; subtype = subtype; form = Scalar }) ∷ []) }
 {
     let name = Text::new(alloc, name)?;
-    types.push(TypeRow { name, subtype })
+    types.push(TypeRow {
+        name,
+        subtype,
+        form: TypeForm::Scalar,
+    })
 }
 
 /// The table of the predefined types, each at the position that is its id.
@@ -89,12 +94,13 @@ pub fn add_variables(
     Ok(())
 }
 
-/// The type that is declared comes after those before it.
+/// The type that is declared comes after those before it. Only types without parts are declared.
 pub fn add_row(alloc: Global, types: &mut Items<TypeRow>, name: &Defining) -> Result<(), AllocError>
     ensures { OnOk result (types.new ≡ types.old ++ row_of name.now ∷ []) }
 {
     types.push(TypeRow {
         name: name.name.text.copy(alloc)?,
         subtype: subtype_of(Some(name.entity)),
+        form: TypeForm::Scalar,
     })
 }
