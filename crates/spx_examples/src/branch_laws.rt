@@ -27,7 +27,7 @@ ghost use Rattle.spx_examples.specs.Next.{next_sub, next_program, next_effect, p
 ghost use Rattle.spx_examples.specs.Refused.{x_is_last};
 
 use spx_core::laws::{
-    initial_values_fit, names_are_scoped, resolution, rules_hold, types_have_values,
+    initial_values_fit, names_are_scoped, resolution, rules_hold, types_are_made, types_have_values,
 };
 
 /// `elsif` is an `if` in the `else` before it.
@@ -73,6 +73,7 @@ pub fn next_is_never_bad()
     names_are_scoped();
     initial_values_fit();
     types_have_values();
+    types_are_made();
     rules_hold();
 }
 

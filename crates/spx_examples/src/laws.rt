@@ -18,7 +18,7 @@ ghost use Rattle.spx_examples.specs.Increment.{place, x, inc, inc_conditions, in
 ghost use Rattle.spx_examples.specs.Refused.{inc_without_pre, increment_without_pre, x_is_last, overflow_without_pre, range_without_pre};
 
 use spx_core::laws::{
-    initial_values_fit, names_are_scoped, resolution, rules_hold, types_have_values,
+    initial_values_fit, names_are_scoped, resolution, rules_hold, types_are_made, types_have_values,
 };
 
 /// The procedure of examples/inc.adb meets the premises of the laws, so they are not empty.
@@ -48,6 +48,7 @@ pub fn increment_is_never_bad()
     names_are_scoped();
     initial_values_fit();
     types_have_values();
+    types_are_made();
     rules_hold();
 }
 
