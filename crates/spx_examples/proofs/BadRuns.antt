@@ -31,7 +31,7 @@ use Rattle.spx_meaning.specs.Evaluation.{Answer, Gives, applied, read, eval, eva
 use Rattle.spx_meaning.specs.Frames.{Frame, around}
 use Rattle.spx_meaning.specs.Laws.{IsNeverBad, NeverBad, Start}
 use Rattle.spx_meaning.specs.Runs.{Outcome, Bad, Ended, Later, after_turn, call, demand, pre_holds, run, then_do}
-use Rattle.spx_meaning.specs.Stores.{Store, is_in, look, reading, type_of}
+use Rattle.spx_meaning.specs.Stores.{Store, is_in, look, reading, type_of, types_of}
 use Rattle.spx_examples.specs.Assertions.{is_positive, program_of}
 use Rattle.spx_examples.specs.BadPrograms.{assert_positive, asserting_in_turns, asserting_loop, bad_first, bad_last, checking_natural, demanding, demanding_program, dividing, is_natural, promising_too_much, quotient}
 use Rattle.spx_examples.specs.Increment.{place, x, x_at, x_named, inc, increment}
@@ -61,13 +61,13 @@ alone p sub n s kind at start is never = not_never p sub n s kind at start is (A
 -- ---- where calls may start
 
 -- with X of `Integer`, from a value of this type
-x_in_type : (subs : List Sub) (m : ℤ) → IsTrue (is_in INTEGER (value.Number m)) → (k : ℕ)
-    → let v : VarId = record { 0 = k } in IfSome (look (x_is m) v) (λ y. IsTrue (is_in (type_of (record increment { subs = subs }) v) y))
+x_in_type : (subs : List Sub) (m : ℤ) → IsTrue (is_in (types_of (record increment { subs = subs })) INTEGER (value.Number m)) → (k : ℕ)
+    → let v : VarId = record { 0 = k } in IfSome (look (x_is m) v) (λ y. IsTrue (is_in (types_of (record increment { subs = subs })) (type_of (record increment { subs = subs }) v) y))
 x_in_type subs m lies zero = lies
 x_in_type subs m lies (suc k) = tt
 
 -- with no other import, and no precondition
-x_starts : (subs : List Sub) (sub : Sub) (m : ℤ) → sub.pre ≡ None → ((v : VarId) → IsTrue (imports v sub) → x ≡ v) → IsTrue (is_in INTEGER (value.Number m)) → Start (record increment { subs = subs }) sub (x_is m)
+x_starts : (subs : List Sub) (sub : Sub) (m : ℤ) → sub.pre ≡ None → ((v : VarId) → IsTrue (imports v sub) → x ≡ v) → IsTrue (is_in (types_of (record increment { subs = subs })) INTEGER (value.Number m)) → Start (record increment { subs = subs }) sub (x_is m)
 x_starts subs sub m none only lies = record {
   precondition = ap (λ pre. pre_holds (around (record increment { subs = subs }) sub (x_is m)) pre (x_is m)) none;
   imports_set = λ v imported. subst (λ w. IsSome (look (x_is m) w)) (only v imported) refl;
@@ -109,7 +109,7 @@ sum_fails = alone increment_without_pre inc_without_pre 0 x_is_last bad.Overflow
 
 -- ---- `X := - X` for an X of `Natural`
 
-natural_in_type : (k : ℕ) → let v : VarId = record { 0 = k } in IfSome (look (x_is (pos 41)) v) (λ y. IsTrue (is_in (type_of natural_program v) y))
+natural_in_type : (k : ℕ) → let v : VarId = record { 0 = k } in IfSome (look (x_is (pos 41)) v) (λ y. IsTrue (is_in (types_of natural_program) (type_of natural_program v) y))
 natural_in_type zero = refl
 natural_in_type (suc k) = tt
 
@@ -128,7 +128,7 @@ natural_fails = alone natural_program natural_sub 0 (x_is (pos 41)) bad.Range (p
 
 -- ---- `X := Y` for an unset local Y
 
-local_in_type : (k : ℕ) → let v : VarId = record { 0 = k } in IfSome (look (x_is (pos 0)) v) (λ y. IsTrue (is_in (type_of (local_program (giving the_local)) v) y))
+local_in_type : (k : ℕ) → let v : VarId = record { 0 = k } in IfSome (look (x_is (pos 0)) v) (λ y. IsTrue (is_in (types_of (local_program (giving the_local))) (type_of (local_program (giving the_local)) v) y))
 local_in_type zero = refl
 local_in_type (suc k) = tt
 
@@ -147,7 +147,7 @@ local_fails = alone (local_program (giving the_local)) (local_sub (giving the_lo
 
 -- ---- an `out` formal that is left unset
 
-none_in_type : (k : ℕ) → let v : VarId = record { 0 = k } in IfSome (look (None ∷ []) v) (λ y. IsTrue (is_in (type_of (out_program only_null) v) y))
+none_in_type : (k : ℕ) → let v : VarId = record { 0 = k } in IfSome (look (None ∷ []) v) (λ y. IsTrue (is_in (types_of (out_program only_null)) (type_of (out_program only_null) v) y))
 none_in_type zero = tt
 none_in_type (suc k) = tt
 
@@ -269,7 +269,7 @@ pub demand_fails : (n : ℕ) → call demanding_program n demanding (number (pos
 unfolding value_of_op
 demand_fails n = ap (demanded n) (out_means (around demanding_program demanding (None ∷ [])) (None ∷ []))
 
-one_in_type : (k : ℕ) → let v : VarId = record { 0 = k } in IfSome (look (x_is (pos 1)) v) (λ y. IsTrue (is_in (type_of demanding_program v) y))
+one_in_type : (k : ℕ) → let v : VarId = record { 0 = k } in IfSome (look (x_is (pos 1)) v) (λ y. IsTrue (is_in (types_of demanding_program) (type_of demanding_program v) y))
 one_in_type zero = refl
 one_in_type (suc k) = tt
 

@@ -9,7 +9,6 @@ use Rattle.spx_core.specs.declared.entity.VarId.{VarId}
 use Rattle.spx_core.specs.declared.expression.CoreExpr.{CoreExpr, CoreExpr-F}
 use Rattle.spx_core.specs.declared.expression.CoreExpr.TheBlock.{hidden-the_row-CoreExpr-0}
 use Rattle.spx_core.specs.declared.expression.CoreExpr.TheVariants as expr
-use Rattle.spx_core.specs.declared.expression.CoreExpr.TheVariants.{outs-Applied, outs-Attribute, outs-Entry, outs-Implicit, outs-InRange, outs-InType, outs-Infix, outs-Name, outs-Number, outs-Parenthesized, outs-Prefix}
 use Rattle.spx_core.specs.declared.name.CoreName.{CoreName}
 use Rattle.spx_core.specs.declared.program.Program.{Program}
 use Rattle.spx_core.specs.declared.rule.Typing.{Typing}
@@ -20,7 +19,7 @@ use Rattle.spx_core.specs.Places.{place_in, place_of}
 use Rattle.spx_core.specs.Reads.{names_read, names_step}
 use Rattle.spx_core.specs.Shapes as shape
 use Rattle.spx_core.specs.Uses.{variable_of}
-use Rattle.spx_core.proofs.Callers.Expressions.{fold-Applied, fold-Attribute, fold-Entry, fold-Implicit, fold-InRange, fold-InType, fold-Infix, fold-Name, fold-Number, fold-Parenthesized, fold-Prefix}
+use Rattle.spx_core.proofs.Callers.Expressions.{fold-Applied, fold-Attribute, fold-Element, fold-Entry, fold-Implicit, fold-InRange, fold-InType, fold-Infix, fold-Name, fold-Number, fold-Parenthesized, fold-Prefix, fold-Selected}
 use Rattle.spx_term.specs.declared.term.Name.{Name}
 use Rattle.spx_term.specs.declared.term.Term.{Term}
 use Rattle.spx_term.specs.declared.term.Term.TheBlock.{hidden-the_row-Term-0}
@@ -31,8 +30,8 @@ use Rattle.spx_term.specs.Equality.{same_name}
 use Rattle.spx_term.proofs.Terms as terms
 use Rattle.spx_meaning.specs.Evaluation.{term_op}
 use Rattle.spx_meaning.specs.Literals.{base_judged, literal_in}
-use Rattle.spx_paths.specs.Checks.{checks, checks-Implicit, checks-Infix, checks-Name, checks-Number, operation_check, right_lefts, unless_static}
-use Rattle.spx_formula.specs.Terms.{literal_or, named, now_term, term_of, term_with, term_with-Implicit, term_with-Infix, term_with-Name, term_with-Number}
+use Rattle.spx_paths.specs.Checks.{checks, checks-Element, checks-Implicit, checks-Infix, checks-Name, checks-Number, checks-Selected, index_check, operation_check, right_lefts, unless_static}
+use Rattle.spx_formula.specs.Terms.{element_term, field_term, literal_or, named, now_term, term_of, term_with, term_with-Element, term_with-Implicit, term_with-Infix, term_with-Name, term_with-Number, term_with-Selected}
 use Rattle.spx_paths.specs.Walks.{is_fixed, keeps_value}
 
 -- ---- expressions
@@ -49,6 +48,8 @@ judged_now (shape.prefix_of op place a) = expr_step (CoreExpr-F.Prefix op place 
 judged_now (shape.infix_of op place a b) = expr_step (CoreExpr-F.Infix op place (judged_now a) (judged_now b))
 judged_now (shape.in_type_of op place a name) = expr_step (CoreExpr-F.InType op place (judged_now a) name)
 judged_now (shape.in_range_of op place a low high) = expr_step (CoreExpr-F.InRange op place (judged_now a) (judged_now low) (judged_now high))
+judged_now (shape.element_of a place i x) = expr_step (CoreExpr-F.Element (judged_now a) place (judged_now i) x)
+judged_now (shape.selected_of a field x) = expr_step (CoreExpr-F.Selected (judged_now a) field x)
 
 pub judged_is : (e : CoreExpr) → judged e ≡ judged_now e
 unfolding hidden-the_row-CoreExpr-0 hidden
@@ -66,6 +67,8 @@ judged_is (shape.in_range_of op place a low high) =
     fold-InRange expr_step op place a low high
     ∙ ap₂ (λ j k. expr_step (CoreExpr-F.InRange op place j k (judged high))) (judged_is a) (judged_is low)
     ∙ ap (λ l. expr_step (CoreExpr-F.InRange op place (judged_now a) (judged_now low) l)) (judged_is high)
+judged_is (shape.element_of a place i x) = fold-Element expr_step a place i x ∙ ap₂ (λ j k. expr_step (CoreExpr-F.Element j place k x)) (judged_is a) (judged_is i)
+judged_is (shape.selected_of a field x) = fold-Selected expr_step a field x ∙ ap (λ j. expr_step (CoreExpr-F.Selected j field x)) (judged_is a)
 
 -- where an expression stands
 abbrev pub place_now : CoreExpr → Place
@@ -80,26 +83,32 @@ place_now (shape.prefix_of op place a) = place
 place_now (shape.infix_of op place a b) = place
 place_now (shape.in_type_of op place a name) = place
 place_now (shape.in_range_of op place a low high) = place
+place_now (shape.element_of a place i x) = place_now a
+place_now (shape.selected_of a field x) = place_now a
 
 pub place_is : (e : CoreExpr) → place_of e ≡ place_now e
 unfolding hidden-the_row-CoreExpr-0 hidden
-place_is (expr.Number n place) = ap place_in (outs-Number n place)
-place_is (expr.Name name) = ap place_in (outs-Name name)
-place_is (expr.Entry name allowed) = ap place_in (outs-Entry name allowed)
-place_is (expr.Attribute prefix designator) = ap place_in (outs-Attribute prefix designator)
-place_is (shape.applied_of function place a) = ap place_in (outs-Applied function place a)
-place_is (shape.parenthesized_of place a) = ap place_in (outs-Parenthesized place a)
-place_is (shape.implicit_of base place a) = ap place_in (outs-Implicit base place a)
-place_is (shape.prefix_of op place a) = ap place_in (outs-Prefix op place a)
-place_is (shape.infix_of op place a b) = ap place_in (outs-Infix op place a b)
-place_is (shape.in_type_of op place a name) = ap place_in (outs-InType op place a name)
-place_is (shape.in_range_of op place a low high) = ap place_in (outs-InRange op place a low high)
+place_is (expr.Number n place) = fold-Number place_in n place
+place_is (expr.Name name) = fold-Name place_in name
+place_is (expr.Entry name allowed) = fold-Entry place_in name allowed
+place_is (expr.Attribute prefix designator) = fold-Attribute place_in prefix designator
+place_is (shape.applied_of function place a) = fold-Applied place_in function place a
+place_is (shape.parenthesized_of place a) = fold-Parenthesized place_in place a
+place_is (shape.implicit_of base place a) = fold-Implicit place_in base place a
+place_is (shape.prefix_of op place a) = fold-Prefix place_in op place a
+place_is (shape.infix_of op place a b) = fold-Infix place_in op place a b
+place_is (shape.in_type_of op place a name) = fold-InType place_in op place a name
+place_is (shape.in_range_of op place a low high) = fold-InRange place_in op place a low high
+place_is (shape.element_of a place i x) = fold-Element place_in a place i x ∙ place_is a
+place_is (shape.selected_of a field x) = fold-Selected place_in a field x ∙ place_is a
 
 -- the names that it reads
 abbrev pub names_now : CoreExpr → List CoreName
 names_now (expr.Number n place) = []
 names_now (expr.Name name) = name ∷ []
 names_now (shape.infix_of op place a b) = names_now a ++ names_now b
+names_now (shape.element_of a place i x) = names_now a ++ names_now i
+names_now (shape.selected_of a field x) = names_now a
 names_now e = names_read e
 
 pub names_are : (e : CoreExpr) → names_read e ≡ names_now e
@@ -115,6 +124,8 @@ names_are (shape.implicit_of base place a) = refl
 names_are (shape.prefix_of op place a) = refl
 names_are (shape.in_type_of op place a name) = refl
 names_are (shape.in_range_of op place a low high) = refl
+names_are (shape.element_of a place i x) = fold-Element names_step a place i x ∙ ap₂ (λ (x y : List CoreName). x ++ y) (names_are a) (names_are i)
+names_are (shape.selected_of a field x) = fold-Selected names_step a field x ∙ names_are a
 
 abbrev pub fixed_now : Sub → CoreExpr → Bool
 fixed_now sub e = list_all (λ r. keeps_value sub r.1) (filter_map read_of (names_now e))
@@ -130,6 +141,8 @@ module _ (present entered : VarId → Term) where
   term_now (expr.Name name) = literal_or (literal_in (judged_now (expr.Name name))) (named present (variable_of name.entity))
   term_now (shape.infix_of op place a b) = literal_or (literal_in (judged_now (shape.infix_of op place a b))) (term.Infix (term_op op) (term_now a) (term_now b))
   term_now (shape.implicit_of base place a) = term_now a
+  term_now (shape.element_of a place i x) = element_term x (term_now a) (term_now i)
+  term_now (shape.selected_of a field x) = field_term x (term_now a)
   term_now e = term_with present entered e
 
   pub term_is : (e : CoreExpr) → term_with present entered e ≡ term_now e
@@ -147,6 +160,8 @@ module _ (present entered : VarId → Term) where
   term_is (shape.prefix_of op place a) = refl
   term_is (shape.in_type_of op place a name) = refl
   term_is (shape.in_range_of op place a low high) = refl
+  term_is (shape.element_of a place i x) = term_with-Element present entered a place i x ∙ ap₂ (element_term x) (term_is a) (term_is i)
+  term_is (shape.selected_of a field x) = term_with-Selected present entered a field x ∙ ap (field_term x) (term_is a)
 
 -- ---- their checks
 
@@ -162,6 +177,8 @@ module _ (p : Program) (entered : VarId → Term) where
       (checks_now lefts a (checks_now (right_lefts op lefts (now a)) b
       (operation_check lefts op (base_judged (judged_now (shape.infix_of op place a b))) place (place_now b) (now b) (now (shape.infix_of op place a b)) rest)))
   checks_now lefts (shape.implicit_of base place a) rest = checks_now lefts a rest
+  checks_now lefts (shape.element_of a place i x) rest = checks_now lefts a (checks_now lefts i (index_check lefts x (place_now i) (now i) rest))
+  checks_now lefts (shape.selected_of a field x) rest = checks_now lefts a rest
   checks_now lefts e rest = checks p entered lefts e rest
 
   pub checks_are : (lefts : List Term) (e : CoreExpr) (rest : Tree) → checks p entered lefts e rest ≡ checks_now lefts e rest
@@ -188,6 +205,12 @@ module _ (p : Program) (entered : VarId → Term) where
   checks_are lefts (shape.prefix_of op place a) rest = refl
   checks_are lefts (shape.in_type_of op place a name) rest = refl
   checks_are lefts (shape.in_range_of op place a low high) rest = refl
+  checks_are lefts (shape.element_of a place i x) rest =
+      checks-Element p entered lefts a place i x rest
+      ∙ ap₂ (λ (at : Place) (t : Term). checks p entered lefts a (checks p entered lefts i (index_check lefts x at t rest))) (place_is i) (term_is (now_term p) entered i)
+      ∙ checks_are lefts a _
+      ∙ ap (checks_now lefts a) (checks_are lefts i _)
+  checks_are lefts (shape.selected_of a field x) rest = checks-Selected p entered lefts a field x rest ∙ checks_are lefts a rest
 
 -- ---- the conditions of trees
 

@@ -12,12 +12,13 @@ use Rattle.spx_core.specs.declared.expression.CoreExpr.{CoreExpr}
 use Rattle.spx_core.specs.declared.expression.CoreExpr.TheBlock.{hidden-the_row-CoreExpr-0}
 use Rattle.spx_core.specs.declared.expression.CoreExpr.TheVariants as expr
 use Rattle.spx_core.specs.declared.rule.ExprType.{ExprType}
+use Rattle.spx_core.specs.declared.rule.ExprType.TheVariants.{Of}
 use Rattle.spx_core.specs.declared.rule.Typing.{Typing}
-use Rattle.spx_core.specs.Contexts.{converted, in_context, is_open, is_static, left_takes, met_by_operand, met_in_range, right_takes, taken, taking, taking-Number, taking-Name, taking-Entry, taking-Attribute, taking-Applied, taking-Parenthesized, taking-Implicit, taking-Prefix, taking-Infix, taking-InType, taking-InRange, type_given}
+use Rattle.spx_core.specs.Contexts.{converted, in_context, is_open, is_static, left_takes, met_by_operand, met_in_range, right_takes, taken, taking, taking-Number, taking-Name, taking-Entry, taking-Attribute, taking-Applied, taking-Parenthesized, taking-Implicit, taking-Prefix, taking-Infix, taking-InType, taking-InRange, taking-Element, taking-Selected, type_given}
 use Rattle.spx_core.specs.Judged.{Judged, judged}
 use Rattle.spx_core.specs.Regions.{Regions}
 use Rattle.spx_core.specs.Resolved.{entry_of, expr_step, resolved_function, resolved_in, resolved_name, resolved_reference, resolved_value}
-use Rattle.spx_core.specs.Shapes.{applied_of, implicit_of, in_range_of, in_type_of, infix_of, parenthesized_of, prefix_of}
+use Rattle.spx_core.specs.Shapes.{applied_of, element_of, implicit_of, in_range_of, in_type_of, infix_of, parenthesized_of, prefix_of, selected_of}
 use Rattle.spx_context.proofs.Unchanged.{takes_none}
 use Rattle.spx_examples.proofs.Computing.{judged_is, judged_now, place_is, place_now}
 
@@ -84,6 +85,8 @@ taking_now given (in_range_of o place a low high) =
     (taking_now (taken (met_in_range (judged_now a) (judged_now low) (judged_now high)) (judged_now a)) a)
     (taking_now (taken (met_in_range (judged_now a) (judged_now low) (judged_now high)) (judged_now low)) low)
     (taking_now (taken (met_in_range (judged_now a) (judged_now low) (judged_now high)) (judged_now high)) high))
+taking_now given (element_of a place i x) = converted_now given (element_of a place i x) (element_of (taking_now None a) place (taking_now (taken (Of x.index.base) (judged_now i)) i) x)
+taking_now given (selected_of a field x) = converted_now given (selected_of a field x) (selected_of (taking_now None a) field x)
 
 -- parts that take types that are met: first what they are judged to be computes, then what becomes of them
 of_one : (f : CoreExpr → CoreExpr) (g : Judged Typing → Option BaseType) (a : CoreExpr) → taking (g (judged_now a)) a ≡ taking_now (g (judged_now a)) a → f (taking (g (judged a)) a) ≡ f (taking_now (g (judged_now a)) a)
@@ -128,6 +131,15 @@ taking_is given (in_range_of o place a low high) =
     ∙ of_one (λ x. made (taking_now (taken of (judged_now a)) a) x (in_context of high)) (taken of) low (taking_is (taken of (judged_now low)) low)
     ∙ of_one (λ x. made (taking_now (taken of (judged_now a)) a) (taking_now (taken of (judged_now low)) low) x) (taken of) high (taking_is (taken of (judged_now high)) high)
     ∙ converted_is given whole _
+taking_is given (element_of a place i x) =
+    let whole : CoreExpr = element_of a place i x in
+    let met : Judged Typing → Option BaseType = taken (Of x.index.base) in
+    taking-Element given a place i x
+    ∙ of_one (λ z. converted given whole (element_of (taking None a) place z x)) met i (taking_is (met (judged_now i)) i)
+    ∙ ap (λ z. converted given whole (element_of z place (taking_now (met (judged_now i)) i) x)) (taking_is None a)
+    ∙ converted_is given whole _
+taking_is given (selected_of a field x) =
+    taking-Selected given a field x ∙ ap (λ z. converted given (selected_of a field x) (selected_of z field x)) (taking_is None a) ∙ converted_is given (selected_of a field x) _
 
 abbrev pub context_now : ExprType → CoreExpr → CoreExpr
 context_now of e = taking_now (taken of (judged_now e)) e

@@ -27,7 +27,7 @@ abbrev up_to : Effect → Effect
 up_to body = count i (Some ((place 5 33, x) ∷ [])) body (place 5 4)
 
 taking_effect : effect taking_i ≡ taking
-taking_effect = ap (λ names. next (assign (Some y) (filter_map read_of names) (place 6 7)) nothing) (fold-Name names_step (i_at 6 12))
+taking_effect = ap (λ names. next (assign (Some y) (filter_map read_of (names ++ [])) (place 6 7)) nothing) (fold-Name names_step (i_at 6 12))
 
 loop_effect : effect (each false up_to_x taking_i) ≡ up_to taking
 loop_effect =

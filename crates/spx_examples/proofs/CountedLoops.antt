@@ -2,8 +2,9 @@
 use Rattle.std.proofs.Common.{◌≡◌, ℕ, suc, ℤ, pos, Bool, true, false, if◌then◌else◌, [], ◌∷◌, Some, None, ap, ap₂, ◌∙◌}
 use Rattle.std.specs.Ordering.{int_eq}
 use Rattle.spx_core.specs.declared.entity.TheConstants.{POSITIVE}
-use Rattle.spx_core.specs.declared.expression.CoreExpr.TheVariants.{Name, outs-Number}
+use Rattle.spx_core.specs.declared.expression.CoreExpr.TheVariants.{Name}
 use Rattle.spx_core.specs.Places.{place_in, place_of}
+use Rattle.spx_core.proofs.Callers.Expressions.{fold-Number}
 use Rattle.spx_term.specs.declared.value.Value.TheVariants.{Number}
 use Rattle.spx_term.specs.Meaning.{as_number}
 use Rattle.spx_meaning.specs.declared.bad.BadKind.TheVariants.{Range}
@@ -69,7 +70,7 @@ pub later : runs_at 1 (each false (between_numbers (pos 1) (pos 2)) taking_i) �
 later = loops false 1 (pos 1) (pos 2) ∙ ap leaving (turn false (pos 2) 0 (pos 1) (before (pos 0)))
 
 pub outside : runs_at 2 (each false (between_numbers (pos 0) (pos 1)) taking_i) ≡ Bad Range (place 5 28)
-outside = loops false 2 (pos 0) (pos 1) ∙ ap (λ e. Bad Range (place_in e)) (outs-Number (pos 0) (place 5 28))
+outside = loops false 2 (pos 0) (pos 1) ∙ ap (Bad Range) (fold-Number place_in (pos 0) (place 5 28))
 
 pub empty : runs_at 0 (each false (between_numbers (pos 2) (pos 0)) taking_i) ≡ Ended (after (pos 0))
 empty = loops false 0 (pos 2) (pos 0)

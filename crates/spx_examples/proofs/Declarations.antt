@@ -17,7 +17,7 @@ use Rattle.spx_core.specs.declared.entity.Subtype.{Subtype}
 use Rattle.spx_core.specs.declared.entity.TheConstants.{WIDEST_FIRST, WIDEST_LAST}
 use Rattle.spx_core.specs.declared.entity.VarId.{VarId}
 use Rattle.spx_core.specs.declared.entity.VarKind.TheVariants.{Initialized}
-use Rattle.spx_core.specs.declared.expression.CoreExpr.TheVariants.{Name as named_expr, outs-Infix, outs-Name}
+use Rattle.spx_core.specs.declared.expression.CoreExpr.TheVariants.{Name as named_expr}
 use Rattle.spx_core.specs.declared.name.CoreName.{CoreName}
 use Rattle.spx_core.specs.declared.name.Defining.{Defining}
 use Rattle.spx_core.specs.declared.name.Reference.{Reference}
@@ -39,7 +39,7 @@ use Rattle.spx_core.specs.Resolved.{Counts, after_formals, around_body, around_n
 use Rattle.spx_core.specs.Statements.{bound, declared_once, first_name_breach, judged_command, judged_decl, judged_end, judged_item, judged_name, judged_param, judged_predicate, static_between, static_number}
 use Rattle.spx_core.specs.Types.{has_numbers}
 use Rattle.spx_core.specs.Uses.{variable_of}
-use Rattle.spx_core.proofs.Callers.Expressions.{fold-Name}
+use Rattle.spx_core.proofs.Callers.Expressions.{fold-Infix, fold-Name}
 use Rattle.spx_term.specs.declared.term.Term.{Term}
 use Rattle.spx_meaning.specs.Evaluation.{Answer, Gives}
 use Rattle.spx_meaning.specs.Frames.{Frame, around as surrounded}
@@ -295,14 +295,14 @@ sum_ends m n sub entry bound =
     let s : Store = values (number m) (number n) in
     let f : Frame = surrounded t_program sub entry in
     assigns f bound s (named (a_at t 1)) (two op.Add t) (sum_of m n) (eval_two f bound s op.Add t)
-    ∙ ap (λ at. then_do (use_value (sum_of m n) (assign t_program at (Some a) s)) Ended) (ap place_in (outs-Infix op.Add (place 1 3) (named_expr (a_at t 1)) (named_expr (b_at t 12))))
+    ∙ ap (λ at. then_do (use_value (sum_of m n) (assign t_program at (Some a) s)) Ended) (fold-Infix place_in op.Add (place 1 3) (named_expr (a_at t 1)) (named_expr (b_at t 12)))
 
 pub literal_ends : (n : ℤ) → LiteralEnds n (then_do (assign warm_program (place 1 12) (Some a) (None ∷ []) (number n)) Ended)
 literal_ends n sub entry bound =
     let f : Frame = surrounded warm_program sub entry in
     let c : CoreName = standing_for (entity.Literal color n) in
     assigns f bound (None ∷ []) (named (a_at warm 1)) (named_expr c) (Gives (number n)) (eval_name f bound (None ∷ []) c)
-    ∙ ap (λ at. then_do (assign warm_program at (Some a) (None ∷ []) (number n)) Ended) (ap place_in (outs-Name c))
+    ∙ ap (λ at. then_do (assign warm_program at (Some a) (None ∷ []) (number n)) Ended) (fold-Name place_in c)
 
 -- a name as a term
 pub term_of_name : (p : Program) (entered : VarId → Term) (name : CoreName) → term_of p entered (named_expr name) ≡ literal_or (literal_in (named_value name)) (termed (now_term p) (variable_of name.entity))

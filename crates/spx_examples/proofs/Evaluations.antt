@@ -15,6 +15,7 @@ use Rattle.spx_core.specs.declared.statement.CoreStmt.TheVariants.{Assignment}
 use Rattle.spx_core.specs.Commands.{commands}
 use Rattle.spx_core.specs.Judged.{Judged, expr_step, judged, named_value, typing}
 use Rattle.spx_core.specs.Places.{place_of}
+use Rattle.spx_core.specs.Resolved.{target_at}
 use Rattle.spx_core.specs.Uses.{variable_of}
 use Rattle.spx_core.proofs.Callers.Expressions.{fold-Name, fold-Infix}
 use Rattle.spx_meaning.specs.declared.bad.BadKind.{BadKind}
@@ -29,7 +30,7 @@ use Rattle.spx_examples.proofs.Statements.{assignment_is, operating}
 abbrev pub taking : Frame → Store → Reference → CoreExpr → Answer → Outcome
 taking f s target e answer = then_do (use_value answer (assign f.program (place_of e) (variable_of target.root.entity) s)) Ended
 
-pub assigns : (f : Frame) (n : ℕ) (s : Store) (target : Reference) (e : CoreExpr) (answer : Answer) → eval f n s e ≡ answer → run f n s (commands (Assignment target e ∷ [])) ≡ taking f s target e answer
+pub assigns : (f : Frame) (n : ℕ) (s : Store) (target : Reference) (e : CoreExpr) (answer : Answer) → eval f n s e ≡ answer → run f n s (commands (Assignment (target_at target) e ∷ [])) ≡ taking f s target e answer
 assigns f n s target e answer is = ap (run f n s) (assignment_is target e) ∙ ap (taking f s target e) is
 
 -- a number that is not static

@@ -32,13 +32,13 @@ exiting = exit ((place 5 10, y) ∷ []) nothing nothing (place 6 7)
 
 -- what an exit reads, and the value of X
 abbrev first_with : (test value : List CoreName) → Effect
-first_with test value = endless (next (exit (filter_map read_of test) nothing nothing (place 6 7)) (next (assign (Some x) (filter_map read_of value) (place 6 7)) nothing))
+first_with test value = endless (next (exit (filter_map read_of test) nothing nothing (place 6 7)) (next (assign (Some x) (filter_map read_of (value ++ [])) (place 6 7)) nothing))
 
 first_effect : effect exit_first ≡ endless (next exiting (next setting nothing))
 first_effect = ap₂ first_with (test_reads (place 5 12) (place 5 14) (y_at 5 10)) (fold-Number names_step (pos 1) (place 6 12))
 
 abbrev last_with : (test value : List CoreName) → Effect
-last_with test value = endless (next (assign (Some x) (filter_map read_of value) (place 6 7)) (next (exit (filter_map read_of test) nothing nothing (place 6 7)) nothing))
+last_with test value = endless (next (assign (Some x) (filter_map read_of (value ++ [])) (place 6 7)) (next (exit (filter_map read_of test) nothing nothing (place 6 7)) nothing))
 
 abbrev last_body : Effect
 last_body = next setting (next exiting nothing)
@@ -47,13 +47,13 @@ last_effect : effect exit_last ≡ endless last_body
 last_effect = ap₂ last_with (test_reads (place 5 12) (place 5 14) (y_at 5 10)) (fold-Number names_step (pos 1) (place 6 12))
 
 abbrev own_with : (test value : List CoreName) → Effect
-own_with test value = endless (next (exit (filter_map read_of test) (next (assign (Some x) (filter_map read_of value) (place 7 10)) (next nothing nothing)) nothing (place 6 7)) nothing)
+own_with test value = endless (next (exit (filter_map read_of test) (next (assign (Some x) (filter_map read_of (value ++ [])) (place 7 10)) (next nothing nothing)) nothing (place 6 7)) nothing)
 
 own_effect : effect set_and_exit ≡ own_with (y_at 5 10 ∷ []) (z_at 7 15 ∷ [])
 own_effect = ap₂ own_with (test_reads (place 5 12) (place 5 14) (y_at 5 10)) (fold-Name names_step (z_at 7 15))
 
 after_never_left_effect : effect after_never_left ≡ next (endless (next nothing nothing)) (next (assign (Some y) ((place 8 9, x) ∷ []) (place 8 4)) nothing)
-after_never_left_effect = ap (λ names. next (endless (next nothing nothing)) (next (assign (Some y) (filter_map read_of names) (place 8 4)) nothing)) (fold-Name names_step (x_at 8 9))
+after_never_left_effect = ap (λ names. next (endless (next nothing nothing)) (next (assign (Some y) (filter_map read_of (names ++ [])) (place 8 4)) nothing)) (fold-Name names_step (x_at 8 9))
 
 -- ---- flow
 

@@ -1,5 +1,5 @@
 -- What is found of the flow of the variants of `Inc` and `Flag`.
-use Rattle.std.proofs.Common.{◌≡◌, ℤ, pos, false, List, [], ◌∷◌, ◌++◌, Option, Some, None, refl, ap, ap₂, ◌∙◌}
+use Rattle.std.proofs.Common.{◌≡◌, ℤ, pos, false, List, [], ◌∷◌, ◌++◌, Option, Some, None, refl, ap, ap₂, ◌∙◌, append-nil}
 use Rattle.std.specs.List.{filter_map}
 use denote.Hole.Carrier.{roll}
 use Rattle.spx_text.specs.declared.place.Place.{Place}
@@ -47,7 +47,7 @@ module _ (rest : List CoreStmt) where
   giving : (target : CoreName) (value : CoreExpr) (names : List CoreName) → names_read value ≡ names → effects (gives target value ∷ rest) ≡ next (assign (variable_of target.entity) (filter_map read_of names) target.name.place) (effects rest)
   giving target value names are =
       first_effect (gives target value) (Set (target_at (named target)) value) (assignment_is (named target) value)
-      ∙ ap (λ names. next (assign (variable_of target.entity) (filter_map read_of names) target.name.place) (effects rest)) are
+      ∙ ap (λ names. next (assign (variable_of target.entity) (filter_map read_of names) target.name.place) (effects rest)) (ap (λ (read : List CoreName). read ++ []) are ∙ append-nil names)
 
   giving_name : (target name : CoreName) → effects (gives target (Name name) ∷ rest) ≡ next (assign (variable_of target.entity) (filter_map read_of (name ∷ [])) target.name.place) (effects rest)
   giving_name target name = giving target (Name name) (name ∷ []) (fold-Name names_step name)

@@ -67,7 +67,7 @@ names_read_are =
 pub effect_is : body_effect flag ≡ flag_effect
 effect_is =
     ap effect flag_command
-    ∙ ap₂ (λ tests values. next (choose (filter_map read_of tests) (next (assign (Some y) (filter_map read_of values) (place 6 7)) nothing) nothing (place 5 4)) nothing) names_read_are (fold-Number names_step (pos 1) (place 6 12))
+    ∙ ap₂ (λ tests values. next (choose (filter_map read_of tests) (next (assign (Some y) (filter_map read_of (values ++ [])) (place 6 7)) nothing) nothing (place 5 4)) nothing) names_read_are (fold-Number names_step (pos 1) (place 6 12))
 
 -- the way past the arm sets nothing
 way_past : Free (Goes flag_effect) y

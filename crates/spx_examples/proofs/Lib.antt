@@ -76,6 +76,7 @@ mod CompositeValues
 mod CompositeSorts
 mod PartValues
 mod PartTables
+mod PartPrograms
 mod LinearMeaning
 mod CompositePlain
 mod CompositeValid

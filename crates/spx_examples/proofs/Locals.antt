@@ -5,7 +5,7 @@ use Rattle.spx_tree.specs.declared.expression.InfixOp.TheVariants as op
 use Rattle.spx_tree.specs.declared.expression.PrefixOp.TheVariants.{Minus}
 use Rattle.spx_core.specs.declared.entity.TheConstants.{INTEGER, INTEGER_FIRST, INTEGER_LAST}
 use Rattle.spx_core.specs.declared.expression.CoreExpr.{CoreExpr}
-use Rattle.spx_core.specs.declared.expression.CoreExpr.TheVariants.{Name, Parenthesized, outs-Number}
+use Rattle.spx_core.specs.declared.expression.CoreExpr.TheVariants.{Name, Parenthesized}
 use Rattle.spx_core.specs.declared.rule.Typing.{Typing}
 use Rattle.spx_core.specs.declared.statement.CoreStmt.{CoreStmt}
 use Rattle.spx_core.specs.declared.statement.CoreStmt.TheVariants.{Null}
@@ -107,7 +107,7 @@ literal_refused =
 pub literal_past_last : (n : ℕ) (v w : Option Value) → call (local_program (giving past_last)) n (local_sub (giving past_last)) (v ∷ w ∷ []) ≡ Bad Range (place 6 9)
 literal_past_last n v w =
     gives n past_last v w (Gives (value.Number (pos 2147483648))) (eval-Number (around_local (giving past_last) v) n (unset_after v) (pos 2147483648) (place 6 9))
-    ∙ ap (λ at. Bad Range at) (ap place_in (outs-Number (pos 2147483648) (place 6 9)))
+    ∙ ap (λ at. Bad Range at) (fold-Number place_in (pos 2147483648) (place 6 9))
 
 -- ---- which operand is met first
 

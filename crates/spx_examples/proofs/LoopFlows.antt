@@ -1,5 +1,5 @@
 -- What loops flow, and the ways through them.
-use Rattle.std.proofs.Common.{◌≡◌, ◌↔◌, ◌⊎◌, inl, inr, ⊎_elim, pos, List, [], ◌∷◌, Some, refl, sym, ap, ap₂, subst, ◌∙◌}
+use Rattle.std.proofs.Common.{◌≡◌, ◌↔◌, ◌⊎◌, inl, inr, ⊎_elim, pos, List, [], ◌∷◌, ◌++◌, Some, refl, sym, ap, ap₂, subst, ◌∙◌}
 use Rattle.std.specs.Prelude.{IsTrue, ◌==◌}
 use Rattle.std.specs.List.{filter_map}
 use Rattle.spx_core.specs.declared.entity.VarId.{VarId}
@@ -37,18 +37,18 @@ where_positive body = repeat ((place 5 10, y) ∷ []) body (place 5 4)
 
 -- the body of a loop with this test, whose first statement has this value
 abbrev decided : (rest : Effect) → (test value : List CoreName) → Effect
-decided rest test value = repeat (filter_map read_of test) (next (assign (Some x) (filter_map read_of value) (place 6 7)) rest) (place 5 4)
+decided rest test value = repeat (filter_map read_of test) (next (assign (Some x) (filter_map read_of (value ++ [])) (place 6 7)) rest) (place 5 4)
 
 deciding_effect : effect deciding ≡ where_positive (last setting)
 deciding_effect = ap₂ (decided nothing) (test_reads (place 5 12) (place 5 14) (y_at 5 10)) (fold-Number names_step (pos 1) (place 6 12))
 
 after_effect : effect copying_after ≡ next (where_positive (last setting)) (last (assign (Some y) ((place 8 9, x) ∷ []) (place 8 4)))
-after_effect = ap₂ (λ loop names. next loop (last (assign (Some y) (filter_map read_of names) (place 8 4)))) deciding_effect (fold-Name names_step (x_at 8 9))
+after_effect = ap₂ (λ loop names. next loop (last (assign (Some y) (filter_map read_of (names ++ [])) (place 8 4)))) deciding_effect (fold-Name names_step (x_at 8 9))
 
 in_effect : effect copying_in ≡ where_positive (next setting (last (assign (Some y) ((place 7 12, x) ∷ []) (place 7 7))))
 in_effect =
     ap₂ (decided _) (test_reads (place 5 12) (place 5 14) (y_at 5 10)) (fold-Number names_step (pos 1) (place 6 12))
-    ∙ ap (λ names. where_positive (next setting (last (assign (Some y) (filter_map read_of names) (place 7 7))))) (fold-Name names_step (x_at 7 12))
+    ∙ ap (λ names. where_positive (next setting (last (assign (Some y) (filter_map read_of (names ++ [])) (place 7 7))))) (fold-Name names_step (x_at 7 12))
 
 -- `X := Y`, and then something is given to Y
 abbrev passing_from : List Read → Effect
@@ -60,7 +60,7 @@ passing = passing_from ((place 7 12, z) ∷ [])
 
 passing_effect : effect passing_on ≡ passing
 passing_effect =
-    ap₂ (λ first second. next (assign (Some x) (filter_map read_of first) (place 6 7)) (last (assign (Some y) (filter_map read_of second) (place 7 7))))
+    ap₂ (λ first second. next (assign (Some x) (filter_map read_of (first ++ [])) (place 6 7)) (last (assign (Some y) (filter_map read_of (second ++ [])) (place 7 7))))
     (fold-Name names_step (y_at 6 12)) (fold-Name names_step (z_at 7 12))
 
 turns_effect : effect passing_turn_by_turn ≡ repeat [] passing (place 5 4)

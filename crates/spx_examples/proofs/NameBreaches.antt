@@ -24,7 +24,7 @@ use Rattle.spx_core.specs.Dependency.{relation}
 use Rattle.spx_core.specs.declared.subprogram.Sub.{Sub}
 use Rattle.spx_core.specs.Judged.{Judged, ◌>>=◌, breach_in, condition, each, if_there, judged, operand_of, referred_target}
 use Rattle.spx_core.specs.Regions.{Region, Regions}
-use Rattle.spx_core.specs.Resolved.{around_body, at_start, counted_sub, declaring, declaring_all, formal_names, local_names, local_variables, params_of, resolved_condition, resolved_expr, resolved_in, resolved_predicate, resolved_reference, resolved_stmts, resolved_sub, resolved_subs, type_named, unit_name}
+use Rattle.spx_core.specs.Resolved.{around_body, at_start, counted_sub, declaring, declaring_all, formal_names, local_names, local_variables, params_of, resolved_condition, resolved_expr, resolved_in, resolved_predicate, resolved_reference, resolved_stmts, resolved_sub, resolved_subs, target_at, type_named, unit_name}
 use Rattle.spx_core.specs.Statements.{first_name_breach, judged_name, judged_command, judged_decl, judged_end, judged_item, judged_param, judged_predicate, judged_sub}
 use Rattle.spx_examples.proofs.Computing.{judged_is, judged_now}
 use Rattle.spx_examples.proofs.Contexts.{met_is, met_now}
@@ -65,7 +65,7 @@ module _ (around : Regions) where
   -- what the assignment is judged to be
   abbrev pub assignment_now : Name → Expr → Judged ⊤
   assignment_now target value = do
-    subtype ← referred_target (resolved_reference around target)
+    subtype ← referred_target (target_at (resolved_reference around target))
     v ← judged_met [] around (type_named around target) value
     operand_of subtype v
 
@@ -81,7 +81,7 @@ module _ (items : List CoreDerivesItem) (outer : Regions) (region : Region) (pos
   body_is target value =
       ap (λ made. judged_command (commands (as_body made))) (resolved_assignment items outer region position target value)
       ∙ ap judged_command (assignment_is (resolved_reference around target) (resolved_expr (type_named around target) around value))
-      ∙ ap (λ j. and_no_more (referred_target (resolved_reference around target) >>= λ subtype. j >>= λ v. operand_of subtype v)) (judged_met_is [] around (type_named around target) value)
+      ∙ ap (λ j. and_no_more (referred_target (target_at (resolved_reference around target)) >>= λ subtype. j >>= λ v. operand_of subtype v)) (judged_met_is [] around (type_named around target) value)
 
   -- what the `if` of one arm is judged to be
   abbrev if_now : Judged Typing → List Stmt → Judged ⊤

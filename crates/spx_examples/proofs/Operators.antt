@@ -1,5 +1,5 @@
 -- What the operators give, mean, ask for and stand for as terms.
-use Rattle.std.proofs.Common.{◌≡◌, ℕ, ℤ, pos, Bool, true, List, [], ◌∷◌, Some, None, Ok, refl, ap, ap₂, ◌∙◌}
+use Rattle.std.proofs.Common.{◌≡◌, ℕ, ℤ, pos, Bool, true, false, if◌then◌else◌, List, [], ◌∷◌, Option, Some, None, Ok, refl, ap, ap₂, ◌∙◌}
 use Rattle.spx_text.specs.declared.place.Place.{Place}
 use Rattle.spx_tree.specs.declared.expression.InfixOp.{InfixOp}
 use Rattle.spx_tree.specs.declared.expression.InfixOp.TheVariants as op
@@ -9,7 +9,7 @@ use Rattle.spx_core.specs.declared.entity.TheConstants.{BOOLEAN, INTEGER}
 use Rattle.spx_core.specs.declared.entity.Subtype.{Subtype}
 use Rattle.spx_core.specs.declared.entity.VarId.{VarId}
 use Rattle.spx_core.specs.declared.expression.CoreExpr.{CoreExpr}
-use Rattle.spx_core.specs.declared.expression.CoreExpr.TheVariants.{Number, Name, Infix, outs-Name}
+use Rattle.spx_core.specs.declared.expression.CoreExpr.TheVariants.{Number, Name, Infix}
 use Rattle.spx_core.specs.declared.name.CoreName.{CoreName}
 use Rattle.spx_core.specs.declared.program.Program.{Program}
 use Rattle.spx_core.specs.declared.rule.ExprType.TheVariants.{Universal, Of}
@@ -17,15 +17,17 @@ use Rattle.spx_core.specs.declared.rule.Typing.{Typing}
 use Rattle.spx_core.specs.Judged.{Judged, ◌>>=◌, expr_step, judged, named_value, typing}
 use Rattle.spx_core.specs.Judged as rules
 use Rattle.spx_core.specs.Places.{place_in, place_of}
+use Rattle.spx_core.specs.Types.{is_parted}
 use Rattle.spx_core.proofs.Callers.Expressions.{fold-Name, fold-Number, fold-Prefix, fold-Infix, fold-InType, fold-InRange}
 use Rattle.spx_term.specs.declared.term.Term.{Term}
 use Rattle.spx_term.specs.declared.term.Term.TheVariants as term
+use Rattle.spx_term.specs.declared.value.Value.{Value}
 use Rattle.spx_term.specs.declared.value.Value.TheVariants as value
 use Rattle.spx_term.specs.Steps.{Tree}
 use Rattle.spx_meaning.specs.Annotations.{meant, meant_step}
 use Rattle.spx_meaning.specs.Evaluation.{Answer, Gives, applied, checked, first_in, last_in, member, read, static_or, term_op, with_value, eval, eval-Number, eval-InType, eval-InRange}
 use Rattle.spx_meaning.specs.Frames.{Frame}
-use Rattle.spx_meaning.specs.Literals.{base_judged, literal_in}
+use Rattle.spx_meaning.specs.Literals.{base_judged, literal_in, static_in}
 use Rattle.spx_meaning.specs.Stores.{Store}
 use Rattle.spx_paths.specs.Checks.{checks, checks-Infix, checks-Name, checks-Number, operation_check, right_lefts, unless_static}
 use Rattle.spx_formula.specs.Terms.{first_term, last_term, literal_or, member_term, now_term, signed_term, term_of, term_with-Infix, term_with-InType, term_with-Name, term_with-Number, term_with-Prefix}
@@ -74,7 +76,21 @@ judged_true = fold-Name expr_step (true_at 1 1)
 
 -- ---- what they give
 
+either_way : (b : Bool) → ◌≡◌ {A = Option Value} (if b then None else None) None
+either_way true = refl
+either_way false = refl
+
+-- a variable is not static, whatever its type
+not_static : (subtype : Subtype) → static_in (Of subtype.base) None ≡ None
+not_static subtype = either_way (is_parted (Of subtype.base))
+
 module _ (f : Frame) (n : ℕ) (s : Store) where
+  eval_a : (subtype : Subtype) (column : ℕ) → eval f n s (Name (a_at subtype column)) ≡ read s (place 1 column) (Some a)
+  eval_a subtype column = eval_name f n s (a_at subtype column) ∙ ap (λ l. static_or l (read s (place 1 column) (Some a))) (not_static subtype)
+
+  eval_b : (subtype : Subtype) (column : ℕ) → eval f n s (Name (b_at subtype column)) ≡ read s (place 1 column) (Some b)
+  eval_b subtype column = eval_name f n s (b_at subtype column) ∙ ap (λ l. static_or l (read s (place 1 column) (Some b))) (not_static subtype)
+
   pub eval_true : eval f n s (Name (true_at 1 1)) ≡ Gives (value.Truth true)
   eval_true = eval_name f n s (true_at 1 1)
 
@@ -82,11 +98,11 @@ module _ (f : Frame) (n : ℕ) (s : Store) where
   eval_two o subtype =
       let left = read s (place 1 1) (Some a) in
       let right = read s (place 1 12) (Some b) in
-      eval_operated f n s o (place 1 3) (Name (a_at subtype 1)) (Name (b_at subtype 12)) (two_judged o subtype) left right (judged_two o subtype) (eval_name f n s (a_at subtype 1)) (eval_name f n s (b_at subtype 12))
-      ∙ ap (λ at. operated_as o (place 1 3) at (two_judged o subtype) left right) (ap place_in (outs-Name (b_at subtype 12)))
+      eval_operated f n s o (place 1 3) (Name (a_at subtype 1)) (Name (b_at subtype 12)) (two_judged o subtype) left right (judged_two o subtype) (eval_a subtype 1) (eval_b subtype 12)
+      ∙ ap (λ at. operated_as o (place 1 3) at (two_judged o subtype) left right) (fold-Name place_in (b_at subtype 12))
 
   pub eval_one : (o : PrefixOp) (subtype : Subtype) → eval f n s (one o subtype) ≡ signed_as o (place 1 3) (one_judged o subtype) (read s (place 1 12) (Some b))
-  eval_one o subtype = eval_signed f n s o (place 1 3) (Name (b_at subtype 12)) (one_judged o subtype) (read s (place 1 12) (Some b)) (judged_one o subtype) (eval_name f n s (b_at subtype 12))
+  eval_one o subtype = eval_signed f n s o (place 1 3) (Name (b_at subtype 12)) (one_judged o subtype) (read s (place 1 12) (Some b)) (judged_one o subtype) (eval_b subtype 12)
 
   pub eval_in_natural : (o : MemberOp) → eval f n s (in_natural o) ≡ with_value (read s (place 1 1) (Some a)) (λ x. Gives (member o x (first_in natural_named) (last_in natural_named)))
   eval_in_natural o =
@@ -179,10 +195,10 @@ meant_truths f o p q =
 module _ (p : Program) (entered : VarId → Term) where
   -- a variable stands for its value now
   term_of_a : (subtype : Subtype) (column : ℕ) → term_of p entered (Name (a_at subtype column)) ≡ now_term p a
-  term_of_a subtype column = term_with-Name (now_term p) entered (a_at subtype column) ∙ ap (λ j. literal_or (literal_in j) (now_term p a)) (fold-Name expr_step (a_at subtype column))
+  term_of_a subtype column = term_with-Name (now_term p) entered (a_at subtype column) ∙ ap (λ j. literal_or (literal_in j) (now_term p a)) (fold-Name expr_step (a_at subtype column)) ∙ ap (λ l. literal_or l (now_term p a)) (not_static subtype)
 
   term_of_b : (subtype : Subtype) (column : ℕ) → term_of p entered (Name (b_at subtype column)) ≡ now_term p b
-  term_of_b subtype column = term_with-Name (now_term p) entered (b_at subtype column) ∙ ap (λ j. literal_or (literal_in j) (now_term p b)) (fold-Name expr_step (b_at subtype column))
+  term_of_b subtype column = term_with-Name (now_term p) entered (b_at subtype column) ∙ ap (λ j. literal_or (literal_in j) (now_term p b)) (fold-Name expr_step (b_at subtype column)) ∙ ap (λ l. literal_or l (now_term p b)) (not_static subtype)
 
   pub term_of_true : term_of p entered (Name (true_at 1 1)) ≡ term.Truth true
   term_of_true = term_with-Name (now_term p) entered (true_at 1 1) ∙ ap (λ j. literal_or (literal_in j) (term.Number (pos 0))) judged_true
@@ -230,7 +246,7 @@ module _ (p : Program) (entered : VarId → Term) where
       let whole : Term = term.Infix (term_op o) (now_term p a) (now_term p b) in
       let after : Tree = operation_check [] o INTEGER.base (place 1 3) (place 1 12) (now_term p b) whole rest in
       checks_operation o (place 1 3) (place 1 12) [] (Name (a_at INTEGER 1)) (Name (b_at INTEGER 12)) (two_judged o INTEGER) (now_term p a) (now_term p b) whole rest
-      (judged_two o INTEGER) (ap place_in (outs-Name (b_at INTEGER 12))) (term_of_a INTEGER 1) (term_of_b INTEGER 12) (term_of_two o INTEGER ∙ ap (λ l. literal_or l whole) none)
+      (judged_two o INTEGER) (fold-Name place_in (b_at INTEGER 12)) (term_of_a INTEGER 1) (term_of_b INTEGER 12) (term_of_two o INTEGER ∙ ap (λ l. literal_or l whole) none)
       ∙ ap₂ (λ l base. unless_static l rest (checks p entered [] (Name (a_at INTEGER 1)) (checks p entered (right_lefts o [] (now_term p a)) (Name (b_at INTEGER 12)) (operation_check [] o base (place 1 3) (place 1 12) (now_term p b) whole rest)))) none base
       ∙ ap (λ lefts. checks p entered [] (Name (a_at INTEGER 1)) (checks p entered lefts (Name (b_at INTEGER 12)) after)) no_lefts
       ∙ checks-Name p entered [] (a_at INTEGER 1) (checks p entered [] (Name (b_at INTEGER 12)) after)
@@ -263,7 +279,7 @@ module _ (p : Program) (entered : VarId → Term) where
   checks_quotient : (rest : Tree) → checks p entered (test_term ∷ []) a_over_b rest ≡ quotient_check rest
   checks_quotient rest =
       let lefts : List Term = test_term ∷ [] in
-      checks_operation op.Divide (place 1 19) (place 1 21) lefts (Name (a_at INTEGER 17)) (Name (b_at INTEGER 21)) _ _ _ _ rest judged_quotient (ap place_in (outs-Name (b_at INTEGER 21))) refl (term_of_b INTEGER 21) term_of_quotient
+      checks_operation op.Divide (place 1 19) (place 1 21) lefts (Name (a_at INTEGER 17)) (Name (b_at INTEGER 21)) _ _ _ _ rest judged_quotient (fold-Name place_in (b_at INTEGER 21)) refl (term_of_b INTEGER 21) term_of_quotient
       ∙ checks-Name p entered lefts (a_at INTEGER 17) (checks p entered lefts (Name (b_at INTEGER 21)) (quotient_check rest))
       ∙ checks-Name p entered lefts (b_at INTEGER 21) (quotient_check rest)
 

@@ -1,6 +1,5 @@
 -- The table of the types of the examples.
-use Rattle.std.proofs.Common.{◌≡◌, ℕ, zero, suc, pos, true, List, [], ◌∷◌, Some, refl, ap, subst, arith}
-use Rattle.std.specs.Prelude.{slice_get}
+use Rattle.std.proofs.Common.{◌≡◌, ℕ, zero, suc, pos, true, [], ◌∷◌, Some, refl, subst, arith}
 use Rattle.spx_term.specs.Sorts.{is_array}
 use Rattle.spx_term.specs.Tables.{Row, array_of, record_of, types_in, IsMade, AreMade}
 use Rattle.spx_term.specs.declared.term.Component.TheVariants as component

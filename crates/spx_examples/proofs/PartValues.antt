@@ -1,5 +1,5 @@
 -- Values of parts, computed.
-use Rattle.std.proofs.Common.{◌≡◌, ℕ, pos, List, [], ◌∷◌, refl, ap, ◌∙◌}
+use Rattle.std.proofs.Common.{◌≡◌, ℕ, pos, List, [], ◌∷◌, ap, ◌∙◌}
 use Rattle.spx_term.specs.declared.term.Component.TheVariants as component
 use Rattle.spx_term.specs.declared.value.Value.{Value}
 use Rattle.spx_term.specs.declared.value.Value.TheVariants as value
@@ -30,7 +30,7 @@ second_in : (k m n : ℕ) → part_of types (element 2) (numbers_of k m n) ≡ v
 unfolding value_of_binary element_at items
 second_in k m n = ap (element_in (first_of types digit) (pos 2)) (value.outs-Elements (pos 1) (items k m n))
 
-put_second : (k m n l : ℕ) → with_part (element 2) (numbers_of k m n) (value.Number (pos l)) ≡ numbers_of k l n
+pub put_second : (k m n l : ℕ) → with_part (element 2) (numbers_of k m n) (value.Number (pos l)) ≡ numbers_of k l n
 unfolding with_elements items
 put_second k m n l = ap (with_elements_in (pos 2) (pos 2) (value.Number (pos l)) (numbers_of k m n)) (value.outs-Elements (pos 1) (items k m n))
 

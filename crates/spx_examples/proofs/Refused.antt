@@ -10,7 +10,7 @@ use Rattle.spx_meaning.specs.declared.bad.BadKind.TheVariants.{Overflow}
 use Rattle.spx_meaning.specs.Frames.{around}
 use Rattle.spx_meaning.specs.Laws.{Start}
 use Rattle.spx_meaning.specs.Runs.{Bad, call}
-use Rattle.spx_meaning.specs.Stores.{look, type_of, is_in}
+use Rattle.spx_meaning.specs.Stores.{look, type_of, is_in, types_of}
 use Rattle.spx_examples.specs.Increment.{place}
 use Rattle.spx_examples.specs.Refused.{inc_without_pre, increment_without_pre, x_is_last}
 use Rattle.spx_examples.proofs.IncrementFlows.{only_import}
@@ -26,7 +26,7 @@ pub obeys : Obeys increment_without_pre
 obeys = ap (λ body. and_no_more (obeyed_command Other body)) inc_command
 
 -- each variable that has a value has one of its type
-in_type : (k : ℕ) → let v : VarId = record { 0 = k } in IfSome (look x_is_last v) (λ y. IsTrue (is_in (type_of increment_without_pre v) y))
+in_type : (k : ℕ) → let v : VarId = record { 0 = k } in IfSome (look x_is_last v) (λ y. IsTrue (is_in (types_of increment_without_pre) (type_of increment_without_pre v) y))
 in_type zero = refl
 in_type (suc k) = tt
 

@@ -86,6 +86,8 @@ judgement_is (shape.prefix_of op place b) = refl
 judgement_is (shape.infix_of op place b c) = refl
 judgement_is (shape.in_type_of op place b name) = refl
 judgement_is (shape.in_range_of op place b low high) = refl
+judgement_is (shape.element_of b place i x) = refl
+judgement_is (shape.selected_of b field x) = refl
 
 -- the values that a name may have
 abbrev extent_now : CoreName → Span
@@ -260,7 +262,7 @@ gives n s = then_do (assign color_program (place 1 12) (Some a) s (number n)) En
 giving_runs : (f : Frame) (is : f.program ≡ color_program) (bound : ℕ) (s : Store) (n : ℤ) → run f bound s (commands (giving n)) ≡ gives n s
 giving_runs f is bound s n =
     assigns f bound s (named (a_at color 1)) (literal_at n) (Gives (number n)) (eval_name f bound s (standing_for (entity.Literal color n)))
-    ∙ ap₂ (λ p out. then_do (assign p (place_in out) (Some a) s (number n)) Ended) is (outs-Name (standing_for (entity.Literal color n)))
+    ∙ ap₂ (λ p at. then_do (assign p at (Some a) s (number n)) Ended) is (fold-Name place_in (standing_for (entity.Literal color n)))
 
 pub chosen_ends : (first second : Option (List CoreChoice)) (n : ℤ) → Chosen first second n (then_do (if has_value first (number n) then gives (pos 2) (holding n) else gives (pos 1) (holding n)) Ended)
 chosen_ends first second n sub entry bound =
@@ -284,5 +286,5 @@ eval_applied f bound s function at name =
     ∙ ap₂ (λ j answer. static_or (literal_in j) (with_value answer (λ x. mapping_checked (application function) (place_of (expr.Name name)) x)))
     (fold-Applied expr_step function at (expr.Name name) ∙ ap (λ j. application function >>= λ mapping. j >>= λ o. mapped function.name.name.place mapping o) (fold-Name expr_step name))
     (eval_name f bound s name)
-    ∙ ap (λ out. static_or (literal_in (application function >>= λ mapping. named_value name >>= λ o. mapped function.name.name.place mapping o))
-    (with_value (static_or (literal_in (named_value name)) (read s name.name.place (variable_of name.entity))) (λ x. mapping_checked (application function) (place_in out) x))) (outs-Name name)
+    ∙ ap (λ at. static_or (literal_in (application function >>= λ mapping. named_value name >>= λ o. mapped function.name.name.place mapping o))
+    (with_value (static_or (literal_in (named_value name)) (read s name.name.place (variable_of name.entity))) (λ x. mapping_checked (application function) at x))) (fold-Name place_in name)

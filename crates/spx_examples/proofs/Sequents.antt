@@ -20,7 +20,7 @@ use Rattle.spx_term.specs.Values.{is_truth}
 use Rattle.spx_term.proofs.ValueLaws.{is_in-layer}
 use Rattle.spx_term.specs.Meaning.{as_number, as_truth, value_of_op, value_of_prefix, value_of, Valuation, HasSort, Holds, Respects, Valid}
 use Rattle.spx_term.proofs.Terms.{value-Infix, value-Number, value-Prefix, value-Variable}
-use Rattle.spx_formula.specs.Looks.{no_composites}
+use Rattle.spx_examples.specs.Types.{no_composites}
 use Rattle.spx_examples.specs.Increment.{entry_x, next_x}
 use Rattle.spx_examples.specs.Sequents.{entry_y, entry_z, entry_b, entry_c, at_most, x_at_most, in_order, in_both_cases, in_both_orders, contradictory, below_next, of_sort, for_x, where_x_is}
 

@@ -6,7 +6,7 @@ use Rattle.spx_core.specs.declared.entity.VarId.{VarId}
 use Rattle.spx_term.specs.declared.value.Value.TheVariants as value
 use Rattle.spx_term.specs.Meaning.{as_truth}
 use Rattle.spx_meaning.specs.Laws.{Start}
-use Rattle.spx_meaning.specs.Stores.{look, type_of, is_in}
+use Rattle.spx_meaning.specs.Stores.{look, type_of, is_in, types_of}
 use Rattle.spx_examples.specs.Increment.{x, inc, increment}
 use Rattle.spx_examples.specs.Refused.{x_is_last}
 use Rattle.spx_examples.specs.Variants.{number}
@@ -14,7 +14,7 @@ use Rattle.spx_examples.proofs.IncrementFlows.{only_import}
 use Rattle.spx_examples.proofs.IncrementRuns.{precondition_means}
 use Rattle.spx_examples.proofs.Successor.{x_is}
 
-in_type : (k : ℕ) → let v : VarId = record { 0 = k } in IfSome (look (x_is (pos 41)) v) (λ y. IsTrue (is_in (type_of increment v) y))
+in_type : (k : ℕ) → let v : VarId = record { 0 = k } in IfSome (look (x_is (pos 41)) v) (λ y. IsTrue (is_in (types_of increment) (type_of increment v) y))
 in_type zero = refl
 in_type (suc k) = tt
 

@@ -6,7 +6,7 @@ use Rattle.spx_tree.specs.declared.expression.InfixOp.TheVariants as op
 use Rattle.spx_core.specs.declared.entity.TheConstants.{INTEGER}
 use Rattle.spx_core.specs.declared.rule.ExprType.TheVariants.{Of}
 use Rattle.spx_core.specs.declared.name.CoreName.{CoreName}
-use Rattle.spx_core.specs.declared.expression.CoreExpr.TheVariants.{Name, Number, outs-Infix}
+use Rattle.spx_core.specs.declared.expression.CoreExpr.TheVariants.{Name, Number}
 use Rattle.spx_core.specs.declared.program.Program.{Program}
 use Rattle.spx_core.specs.Judged.{◌>>=◌, expr_step, judged, typing, operand_of}
 use Rattle.spx_core.specs.Commands.{Command, Set}
@@ -55,7 +55,7 @@ names_read_are line column =
     ∙ ap₂ (λ (a b : List CoreName). a ++ b) (fold-Name names_step (x_at line column)) (fold-Number names_step (pos 1) (place line (column + 4)))
 
 pub step_effect : (line target value : ℕ) → effect (step_command line target value) ≡ assign (Some x) ((place line value, x) ∷ []) (place line target)
-step_effect line target value = ap (λ names. assign (Some x) (filter_map read_of names) (place line target)) (names_read_are line value)
+step_effect line target value = ap (λ names. assign (Some x) (filter_map read_of (names ++ [])) (place line target)) (names_read_are line value)
 
 -- ---- values and runs
 
@@ -65,7 +65,7 @@ x_is n = Some (value.Number n) ∷ []
 
 -- a sum is at its operator
 pub place_of_successor : (line column : ℕ) → place_of (successor line column) ≡ place line (column + 2)
-place_of_successor line column = ap place_in (outs-Infix op.Add (place line (column + 2)) (Name (x_at line column)) (Number (pos 1) (place line (column + 4))))
+place_of_successor line column = fold-Infix place_in op.Add (place line (column + 2)) (Name (x_at line column)) (Number (pos 1) (place line (column + 4)))
 
 -- the value of X + 1, where X is read as this
 abbrev pub successor_of : Place → Answer → Answer

@@ -12,7 +12,7 @@ use Rattle.spx_meaning.specs.Frames.{Frame, around}
 use Rattle.spx_meaning.specs.Evaluation.{Gives}
 use Rattle.spx_meaning.specs.Laws.{Start, Agree, AreDerived, OthersAreKept, TwoRuns}
 use Rattle.spx_meaning.specs.Runs.{Ended, call}
-use Rattle.spx_meaning.specs.Stores.{Store, look, type_of, is_in}
+use Rattle.spx_meaning.specs.Stores.{Store, look, type_of, is_in, types_of}
 use Rattle.spx_examples.specs.Increment.{x}
 use Rattle.spx_examples.specs.Flag.{y, y_at, named}
 use Rattle.spx_examples.specs.Copy.{z_at, copy, copy_program}
@@ -46,13 +46,13 @@ copies_2 n v = copies n v (pos 2)
 only_import : (v : VarId) → IsTrue (imports v copy) → x ≡ v
 only_import = if_x (λ b. b || false) refl
 
-in_type : (m : ℤ) → IsTrue (is_in (type_of copy_program (record { 0 = 2 })) (value.Number m)) → (k : ℕ) → let v : VarId = record { 0 = k } in IfSome (look (from None m) v) (λ w. IsTrue (is_in (type_of copy_program v) w))
+in_type : (m : ℤ) → IsTrue (is_in (types_of copy_program) (type_of copy_program (record { 0 = 2 })) (value.Number m)) → (k : ℕ) → let v : VarId = record { 0 = k } in IfSome (look (from None m) v) (λ w. IsTrue (is_in (types_of copy_program) (type_of copy_program v) w))
 in_type m lies zero = refl
 in_type m lies (suc zero) = tt
 in_type m lies (suc (suc zero)) = lies
 in_type m lies (suc (suc (suc k))) = tt
 
-starts : (m : ℤ) → IsTrue (is_in (type_of copy_program (record { 0 = 2 })) (value.Number m)) → Start copy_program copy (from None m)
+starts : (m : ℤ) → IsTrue (is_in (types_of copy_program) (type_of copy_program (record { 0 = 2 })) (value.Number m)) → Start copy_program copy (from None m)
 starts m lies = record {
   precondition = refl;
   imports_set = λ v imported. subst (λ w. IsSome (look (from None m) w)) (only_import v imported) refl;
@@ -77,7 +77,7 @@ pub changes : (n : ℕ) → call increment_without_derives n inc_without_derives
 unfolding value_of_op
 changes n = ap (to_end inc_without_derives) (body_runs (around increment_without_derives inc_without_derives (x_is (pos 0))) n (x_is (pos 0)))
 
-x_in_type : (k : ℕ) → let v : VarId = record { 0 = k } in IfSome (look (x_is (pos 0)) v) (λ w. IsTrue (is_in (type_of increment_without_derives v) w))
+x_in_type : (k : ℕ) → let v : VarId = record { 0 = k } in IfSome (look (x_is (pos 0)) v) (λ w. IsTrue (is_in (types_of increment_without_derives) (type_of increment_without_derives v) w))
 x_in_type zero = refl
 x_in_type (suc k) = tt
 

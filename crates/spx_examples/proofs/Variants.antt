@@ -3,7 +3,7 @@ use Rattle.std.proofs.Common.{◌≡◌, ℕ, ℤ, pos, false, [], ◌∷◌, Op
 use Rattle.spx_tree.specs.declared.expression.InfixOp.TheVariants as op
 use Rattle.spx_tree.specs.declared.expression.PrefixOp.TheVariants.{Minus}
 use Rattle.spx_core.specs.declared.entity.TheConstants.{INTEGER, NATURAL}
-use Rattle.spx_core.specs.declared.expression.CoreExpr.TheVariants.{Number, Name, outs-Prefix}
+use Rattle.spx_core.specs.declared.expression.CoreExpr.TheVariants.{Number, Name}
 use Rattle.spx_core.specs.Commands.{commands}
 use Rattle.spx_core.specs.Judged.{◌>>=◌, expr_step, judged, operand_of}
 use Rattle.spx_core.specs.Judged as rules
@@ -59,7 +59,7 @@ gives_negated n m =
     let answer : Answer = signed Minus INTEGER.base (place 6 9) (value.Number m) in
     ap (to_end natural_sub)
     (assigns f n (x_is m) (named (natural_x_at 6 4)) natural_negated answer (eval_signed f n (x_is m) Minus (place 6 9) (Name (natural_x_at 6 11)) _ _ judged_negated (eval_name f n (x_is m) (natural_x_at 6 11)))
-    ∙ ap (λ at. then_do (use_value answer (assign natural_program at (Some x) (x_is m))) Ended) (ap place_in (outs-Prefix Minus (place 6 9) (Name (natural_x_at 6 11)))))
+    ∙ ap (λ at. then_do (use_value answer (assign natural_program at (Some x) (x_is m))) Ended) (fold-Prefix place_in Minus (place 6 9) (Name (natural_x_at 6 11))))
 
 pub stays_natural : (n : ℕ) → call natural_program n natural_sub (number (pos 0) ∷ []) ≡ Ended (number (pos 0) ∷ [])
 unfolding value_of_prefix

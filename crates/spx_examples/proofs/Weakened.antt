@@ -44,7 +44,7 @@ use Rattle.spx_term.specs.declared.value.Value.{Value}
 use Rattle.spx_term.specs.declared.value.Value.TheVariants as value
 use Rattle.spx_term.specs.Meaning.{as_number, as_truth, same_value, value_of, value_of_op, value_of_prefix, Holds, Valid, Valuation}
 use Rattle.spx_term.proofs.Terms.{value-Infix, value-Number, value-Truth, value-Variable}
-use Rattle.spx_formula.specs.Looks.{no_composites}
+use Rattle.spx_examples.specs.Types.{no_composites}
 use Rattle.spx_meaning.specs.declared.bad.BadKind.TheVariants.{Overflow, Pre, Unset}
 use Rattle.spx_meaning.specs.declared.bad.BadKind.TheVariants as bad
 use Rattle.spx_meaning.specs.Annotations.{truth}
@@ -54,7 +54,7 @@ use Rattle.spx_meaning.specs.Frames.{Frame, around}
 use Rattle.spx_meaning.specs.Laws.{Agree, AreDerived, CallsAreSettled, OthersAreKept, Start, TwoRuns}
 use Rattle.spx_meaning.specs.Limits.{call_passes, passes, passes_for, passes_in_count, passes_in_range, where_ended, where_given}
 use Rattle.spx_meaning.specs.Runs.{Outcome, Ended, Left, Bad, Later, after_turn, then_do, use_value, demand, demand_post, exports_set, in_bounds, run, call}
-use Rattle.spx_meaning.specs.Stores.{Store, look, type_of, is_in}
+use Rattle.spx_meaning.specs.Stores.{Store, look, type_of, is_in, types_of}
 use Rattle.spx_meaning.proofs.Callers.Annotations.{computed_is_meant}
 use Rattle.spx_examples.specs.Assertions.{doing, program_of}
 use Rattle.spx_examples.specs.Increment.{place, integer_at, x, x_at, x_named, successor, step, inc, increment, entry_x}
@@ -87,11 +87,11 @@ use Rattle.spx_examples.proofs.Successor.{assigning, judged_x, step_command, ste
 -- ---- starts from below 0
 
 -- X has a value of its type
-in_type : (m : ℤ) → IsTrue (is_in (type_of increment x) (value.Number m)) → (k : ℕ) → let v : VarId = record { 0 = k } in IfSome (look (x_of m) v) (λ y. IsTrue (is_in (type_of increment v) y))
+in_type : (m : ℤ) → IsTrue (is_in (types_of increment) (type_of increment x) (value.Number m)) → (k : ℕ) → let v : VarId = record { 0 = k } in IfSome (look (x_of m) v) (λ y. IsTrue (is_in (types_of increment) (type_of increment v) y))
 in_type m lies zero = lies
 in_type m lies (suc k) = tt
 
-starts : (m : ℤ) → IsTrue (is_in (type_of increment x) (value.Number m)) → IsTrue (int_lt m INTEGER_LAST) → Start increment inc (x_of m)
+starts : (m : ℤ) → IsTrue (is_in (types_of increment) (type_of increment x) (value.Number m)) → IsTrue (int_lt m INTEGER_LAST) → Start increment inc (x_of m)
 starts m lies below = record {
   precondition = ap as_truth (precondition_means m) ∙ below;
   imports_set = λ v imported. subst (λ w. IsSome (look (x_of m) w)) (only_import v imported) refl;
@@ -670,7 +670,7 @@ local_changes n v w = reaches (z_at 6 4) n v w
 abbrev three : Store
 three = all_of (number (pos 41)) (number (pos 7)) (number (pos 8))
 
-three_in_types : (name : CoreName) (k : ℕ) → let v : VarId = record { 0 = k } in IfSome (look three v) (λ u. IsTrue (is_in (type_of (with_other (reaching name)) v) u))
+three_in_types : (name : CoreName) (k : ℕ) → let v : VarId = record { 0 = k } in IfSome (look three v) (λ u. IsTrue (is_in (types_of (with_other (reaching name))) (type_of (with_other (reaching name)) v) u))
 three_in_types name zero = refl
 three_in_types name (suc zero) = refl
 three_in_types name (suc (suc zero)) = refl
@@ -748,11 +748,11 @@ pub no_turn_ends : call (program_of from_nothing) 0 from_nothing (x_of (pos 101)
 unfolding value_of_op
 no_turn_ends = calls (pos 101) 0 (Ended (x_of (pos 101))) (no_turn_left (pos 101) (x_of (pos 101)))
 
-nothing_in_type : (m : ℤ) → IsTrue (is_in (type_of (program_of from_nothing) x) (value.Number m)) → (k : ℕ) → let v : VarId = record { 0 = k } in IfSome (look (x_of m) v) (λ u. IsTrue (is_in (type_of (program_of from_nothing) v) u))
+nothing_in_type : (m : ℤ) → IsTrue (is_in (types_of (program_of from_nothing)) (type_of (program_of from_nothing) x) (value.Number m)) → (k : ℕ) → let v : VarId = record { 0 = k } in IfSome (look (x_of m) v) (λ u. IsTrue (is_in (types_of (program_of from_nothing)) (type_of (program_of from_nothing) v) u))
 nothing_in_type m lies zero = lies
 nothing_in_type m lies (suc k) = tt
 
-nothing_starts : (m : ℤ) → IsTrue (is_in (type_of (program_of from_nothing) x) (value.Number m)) → Start (program_of from_nothing) from_nothing (x_of m)
+nothing_starts : (m : ℤ) → IsTrue (is_in (types_of (program_of from_nothing)) (type_of (program_of from_nothing) x) (value.Number m)) → Start (program_of from_nothing) from_nothing (x_of m)
 nothing_starts m lies = record {
   precondition = refl;
   imports_set = λ v imported. absurd (let e : ⊥ = cc in e);
@@ -872,7 +872,7 @@ passed target value = effects.next (effects.assign (Some target) ((place 6 12, y
 -- the same, by what names denote
 abbrev passed_by : VarId → List CoreName → List CoreName → Effect
 passed_by target first second =
-    effects.next (effects.assign (Some target) (filter_map read_of first) (place 6 7)) (effects.next (effects.assign (Some y) (filter_map read_of second) (place 7 7)) effects.nothing)
+    effects.next (effects.assign (Some target) (filter_map read_of (first ++ [])) (place 6 7)) (effects.next (effects.assign (Some y) (filter_map read_of (second ++ [])) (place 7 7)) effects.nothing)
 
 module _ (target value : VarId) where
   -- Y, or what Y is given

@@ -31,6 +31,7 @@ use Rattle.spx_core.specs.declared.expression.CoreExpr.TheVariants as expr
 use Rattle.spx_core.specs.declared.name.CoreName.{CoreName}
 use Rattle.spx_core.specs.declared.name.Defining.{Defining}
 use Rattle.spx_core.specs.declared.program.Program.{Program}
+use Rattle.spx_core.specs.declared.program.TypeForm.TheVariants.{Scalar}
 use Rattle.spx_core.specs.declared.program.TypeRow.{TypeRow}
 use Rattle.spx_core.specs.declared.program.Var.{Var}
 use Rattle.spx_core.specs.declared.rule.Breach.{Breach}
@@ -166,7 +167,7 @@ part_of base id first last = record { id = record { 0 = id }; base = base; first
 
 -- the row of a type
 abbrev pub row : List ℕ → Subtype → TypeRow
-row name subtype = record { name = name; subtype = subtype }
+row name subtype = record { name = name; subtype = subtype; form = Scalar }
 
 -- a number after `-`
 abbrev pub minus : ℤ → ℕ → ℕ → Expr

@@ -1,4 +1,5 @@
 pub mod Answers
+pub mod Types
 pub mod Example
 pub mod Branches
 pub mod Increment
@@ -31,4 +32,5 @@ pub mod BadPrograms
 pub mod Weakenings
 pub mod CompositeExamples
 pub mod PartExamples
+pub mod PartPrograms
 pub mod LinearExamples

@@ -6,7 +6,7 @@ use Rattle.spx_term.specs.declared.value.Value.{Value}
 use Rattle.spx_term.specs.declared.value.Value.TheVariants as value
 use Rattle.spx_term.specs.Tables.{Row, array_of, record_of}
 use Rattle.spx_term.specs.Parts.{Step, indexed, selected, TermStep, indexed_by, selecting}
-use Rattle.spx_examples.specs.CompositeExamples.{digit, numbers, array_f, digit_g, number, numbers_of}
+use Rattle.spx_examples.specs.CompositeExamples.{digit, numbers, array_f, digit_g}
 
 -- T, P and Q, in their order
 abbrev pub rows : List Row

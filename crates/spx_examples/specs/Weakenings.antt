@@ -34,7 +34,7 @@ use Rattle.spx_term.specs.declared.term.Term.TheVariants as term
 use Rattle.spx_term.specs.declared.term.TermOp.TheVariants.{GreaterOrEqual}
 use Rattle.spx_term.specs.declared.value.Value.{Value}
 use Rattle.spx_term.specs.Meaning.{as_number, Holds, Respects, Valuation}
-use Rattle.spx_formula.specs.Looks.{no_composites}
+use Rattle.spx_examples.specs.Types.{no_composites}
 use Rattle.spx_meaning.specs.Bits.{computed, is_too_large}
 use Rattle.spx_meaning.specs.Frames.{Frame, around}
 use Rattle.spx_meaning.specs.Laws.{Agree, Start}

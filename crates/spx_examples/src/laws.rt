@@ -69,6 +69,6 @@ pub fn a_run_without_proof_is_bad()
 /// to run. That X lies below a number, by a precondition or by the condition of a branch, is what makes this condition valid.
 pub fn a_sum_without_a_test_is_not_valid()
     ensures conditions { conditions_of increment_without_pre inc_without_pre ≡ overflow_without_pre ∷ range_without_pre ∷ [] }
-    ensures not_valid { ¬ IsValid overflow_without_pre }
+    ensures not_valid { ¬ IsValid increment_without_pre overflow_without_pre }
     ensures unfit { ¬ Fit increment_without_pre }
 {}

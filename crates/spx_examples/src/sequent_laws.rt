@@ -6,7 +6,7 @@ ghost use Rattle.spx_term.specs.declared.term.Term.TheVariants as term;
 ghost use Rattle.spx_term.specs.declared.term.TermOp.TheVariants.{Equal};
 ghost use Rattle.spx_term.specs.Meaning.{Holds, Respects, Valid};
 ghost use Rattle.spx_term.specs.Plain.{Plain};
-ghost use Rattle.spx_formula.specs.Looks.{no_composites};
+ghost use Rattle.spx_examples.specs.Types.{no_composites};
 ghost use Rattle.spx_examples.specs.Increment.{entry_x};
 ghost use Rattle.spx_examples.specs.Sequents.{entry_y, entry_z, entry_c, at_most, x_at_most, in_order, in_both_cases, in_both_orders, contradictory, below_next, where_x_is};
 

@@ -11,7 +11,7 @@ ghost use Rattle.spx_term.specs.declared.term.Term.TheVariants as term;
 ghost use Rattle.spx_term.specs.declared.value.Value.{Value};
 ghost use Rattle.spx_term.specs.declared.value.Value.TheVariants as value;
 ghost use Rattle.spx_term.specs.Meaning.{Valid};
-ghost use Rattle.spx_formula.specs.Looks.{no_composites};
+ghost use Rattle.spx_examples.specs.Types.{no_composites};
 ghost use Rattle.spx_meaning.specs.declared.bad.BadKind.TheVariants.{Overflow, Pre, Unset};
 ghost use Rattle.spx_meaning.specs.Bits.{is_too_large};
 ghost use Rattle.spx_meaning.specs.Frames.{Frame, around};

@@ -6,13 +6,12 @@ use Rattle.spx_examples.proofs.branch_laws.next_is_never_bad.Goals as goal
 pub returns-clause-fit : goal.returns-clause-fit
 returns-clause-fit c =
     let clean = c.next_is_clean.ensures in
-    let table = c.types_are_made.ensures next_program clean.visible clean.typed in
-    clean_is_fit next_program table (c.names_are_scoped.ensures next_program clean.visible) (c.initial_values_fit.ensures next_program clean.visible clean.typed) clean
+    clean_is_fit next_program (c.types_are_made.ensures next_program clean.visible clean.typed) (c.names_are_scoped.ensures next_program clean.visible) (c.initial_values_fit.ensures next_program clean.visible clean.typed) clean
 
 pub returns-clause-never_bad : goal.returns-clause-never_bad
 returns-clause-never_bad c =
     let clean = c.next_is_clean.ensures in
-    let table = c.types_are_made.ensures next_program clean.visible clean.typed in
     let scoped = c.names_are_scoped.ensures next_program clean.visible in
     let initial = c.initial_values_fit.ensures next_program clean.visible clean.typed in
-    never_bad next_program scoped initial (c.types_have_values.ensures next_program clean.visible clean.typed) table (c.rules_hold.ensures next_program clean.visible clean.obeys) (clean_is_fit next_program table scoped initial clean)
+    let made = c.types_are_made.ensures next_program clean.visible clean.typed in
+    never_bad next_program scoped initial (c.types_have_values.ensures next_program clean.visible clean.typed) made (c.rules_hold.ensures next_program clean.visible clean.obeys) (clean_is_fit next_program made scoped initial clean)
