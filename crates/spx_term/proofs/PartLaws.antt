@@ -1,7 +1,6 @@
 -- Terms mean parts of values, which lie in their types and are replaced one by one.
-use Rattle.std.proofs.Common.{◌≡◌, ℕ, ℤ, Bool, true, false, ◌&&◌, ◌==◌, int_le, Option, Some, List, [], ◌∷◌, map, refl, sym, ap, ap₂, ◌∙◌, subst, ◌⊎◌, inl, inr, arith}
+use Rattle.std.proofs.Common.{◌≡◌, ℕ, ℤ, Bool, true, false, ◌&&◌, ◌==◌, Option, Some, List, [], ◌∷◌, map, refl, sym, ap, ap₂, ◌∙◌, subst, inl, inr, arith}
 use Rattle.std.proofs.lemmas.Bool.Decides.{nat_tests}
-use Rattle.std.specs.Ordering.{int_eq}
 use Rattle.spx_term.specs.declared.term.Sort.{Sort}
 use Rattle.spx_term.specs.declared.term.Sort.TheVariants.{Integer, Composite}
 use Rattle.spx_term.specs.declared.term.ArrayType.{ArrayType}
@@ -17,7 +16,7 @@ use Rattle.spx_term.specs.declared.value.Value.{Value}
 use Rattle.spx_term.specs.Values.{Types, shape_of, first_of, has_first, lies_between, is_in, with_elements, with_field}
 use Rattle.spx_term.specs.Sorts.{asked, sort_in, sort_of_shape, element_shape, field_shape, looks, takes, element_takes, field_takes, is_array, is_field, sort_of_unary, sort_of_binary, sort_of_ternary, one, both, three, sort_step, sort_of}
 use Rattle.spx_term.specs.Meaning.{Valuation, value_of, value_of_unary, value_of_binary}
-use Rattle.spx_term.specs.Parts.{Step, indexed, selected, part_of, with_part, at_end, with_end, TermStep, indexed_by, selecting, step_in, part_term, with_part_term, end_term, with_end_term, AreMeant, PartsAreMeant, LeadsTo, AreSorted, PartsAreSorted, Leads, IsReplaced, PartsAreReplaced, Differ, Diverge, OtherPartsStay}
+use Rattle.spx_term.specs.Parts.{Step, indexed, selected, part_of, with_part, at_end, with_end, TermStep, indexed_by, selecting, step_in, part_term, with_part_term, end_term, with_end_term, PartsAreMeant, LeadsTo, AreSorted, PartsAreSorted, Leads, IsReplaced, PartsAreReplaced, Differ, Diverge, OtherPartsStay}
 use Rattle.spx_term.proofs.Equality.{same_shape-Decides, same_sort-Decides}
 use Rattle.spx_term.proofs.Terms.{fold-Unary, fold-Binary, fold-Ternary, value-Unary, value-Binary, value-Ternary}
 use Rattle.spx_term.proofs.ValueLaws.{ArrayValue, element_passes, with_elements_pass, read_outside, read_inside, RecordValue, field_is_in, with_field_pass, read_field, read_other_field, first_is_in}

@@ -1,6 +1,6 @@
 -- The types of a table look as its rows say.
-use Rattle.std.proofs.Common.{◌≡◌, ℕ, zero, suc, ◌<◌, ◌+◌, ℤ, Bool, true, false, ◌&&◌, List, [], ◌∷◌, ◌++◌, map, length, replicate, Option, Some, None, refl, sym, ap, ap₂, ◌∙◌, subst, int_le, arith}
-use Rattle.std.specs.Prelude.{⊤, slice_get}
+use Rattle.std.proofs.Common.{◌≡◌, ℕ, zero, suc, ◌<◌, ◌+◌, ℤ, Bool, true, false, ◌&&◌, List, [], ◌∷◌, ◌++◌, map, length, replicate, Option, Some, refl, sym, ap, ap₂, ◌∙◌, subst, int_le, arith}
+use Rattle.std.specs.Prelude.{slice_get}
 use Rattle.std.specs.List.{AllByRecursion, list_all}
 use Rattle.std.proofs.lemmas.Int.{ints}
 use Rattle.std.proofs.lemmas.List.{length-replicate}
@@ -16,7 +16,7 @@ use Rattle.spx_term.specs.declared.value.Value.TheVariants.{outs-Number, outs-Tr
 use Rattle.spx_term.specs.Equality.{same_shape, same_sort}
 use Rattle.spx_term.specs.Values.{Types, count, each_passes, fields_pass, first_step, first_value, has_first, is_in, is_in_step, is_truth, number_passes, shape_of, within}
 use Rattle.spx_term.specs.Sorts.{element_shape, element_shape_in, field_shape, field_shape_in, is_array, is_component, is_field, sort_in, sort_of_layer, sort_of_shape}
-use Rattle.spx_term.specs.Tables.{Row, plain, array_of, record_of, shape_in, shape_at, shapes_from, types_in, IsComposite, IsEarlier, IsComponent, IsMade, AreMade, HasTypes, TablesHaveTypes}
+use Rattle.spx_term.specs.Tables.{Row, plain, array_of, record_of, shape_in, shape_at, shapes_from, types_in, IsComposite, IsComponent, IsMade, AreMade, TablesHaveTypes}
 use Rattle.spx_term.proofs.Equality.{same_shape-Decides, same_sort-Decides}
 use Rattle.spx_term.proofs.ValueLaws.{is_in-layer, from_elements}
 

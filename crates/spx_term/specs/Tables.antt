@@ -1,5 +1,5 @@
 -- A table of types, in the order of their declarations, and what the values of each look like (Ada 95 RM 3.2). A type is made of those before it.
-use Rattle.std.specs.Prelude.{◌≡◌, ⊤, ◌<◌, ℕ, zero, suc, ℤ, pos, true, int_le, Option, Some, List, [], ◌∷◌, ◌++◌, map, length, slice_get}
+use Rattle.std.specs.Prelude.{◌≡◌, ⊤, ◌<◌, ℕ, zero, suc, ℤ, pos, true, int_le, Some, List, [], ◌∷◌, ◌++◌, map, length, slice_get}
 use Rattle.std.specs.List.{AllByRecursion}
 use Rattle.spx_term.specs.declared.term.ArrayType.{ArrayType}
 use Rattle.spx_term.specs.declared.term.Component.{Component}
