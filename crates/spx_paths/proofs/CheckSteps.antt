@@ -10,6 +10,9 @@ use Rattle.spx_tree.specs.declared.expression.PrefixOp.{PrefixOp}
 use Rattle.spx_core.specs.declared.entity.BaseType.{BaseType}
 use Rattle.spx_core.specs.declared.entity.Subtype.{Subtype}
 use Rattle.spx_core.specs.declared.name.Reference.{Reference}
+use Rattle.spx_core.specs.declared.part.Indexing.{Indexing}
+use Rattle.spx_core.specs.declared.part.Selection.{Selection}
+use Rattle.spx_tree.specs.declared.expression.Identifier.{Identifier}
 use Rattle.spx_core.specs.declared.expression.CoreExpr.{CoreExpr}
 use Rattle.spx_core.specs.declared.expression.CoreExpr.TheVariants as expr
 use Rattle.spx_core.specs.declared.function.CoreFunction.{CoreFunction}
@@ -38,15 +41,15 @@ use Rattle.spx_steps.proofs.Arena.{more_not, more_terms, more_twice, order_kept}
 use Rattle.spx_paths.specs.declared.draft.Check.{Check}
 use Rattle.spx_paths.specs.declared.draft.Draft.{Draft}
 use Rattle.spx_formula.specs.Added.{AddsAll}
-use Rattle.spx_paths.specs.Checks.{checked_under, checks, mapping_check, operation_check, right_lefts, sign_check}
+use Rattle.spx_paths.specs.Checks.{checked_under, checks, index_check, mapping_check, operation_check, right_lefts, sign_check}
 use Rattle.spx_formula.specs.Goals.{guarded}
 use Rattle.spx_paths.specs.Drafts.{AddsTerm, AlsoWaits, AreChecks, Evaluates, Ready, laid}
 use Rattle.spx_formula.specs.Functions.{shift_in}
-use Rattle.spx_formula.specs.Terms.{member_term, moved_term, now_term, signed_term, term_of}
+use Rattle.spx_formula.specs.Terms.{element_term, field_term, member_term, moved_term, now_term, signed_term, term_of}
 use Rattle.spx_paths.specs.Waiting.{Checked, Finds, Gives, Keeps, MeanAll, Means, Whole}
 use Rattle.spx_paths.proofs.BuildLaws.{checks_kept, wider_checks}
-use Rattle.spx_formula.proofs.Expressions.{applied_term, implicit_term, in_range_term, in_type_term, infix_term, parenthesized_term, prefix_term, static_is}
-use Rattle.spx_paths.proofs.CheckLaws.{applied_checks, implicit_checks, in_range_checks, in_type_checks, infix_checks, parenthesized_checks, prefix_checks, static_unchecked}
+use Rattle.spx_formula.proofs.Expressions.{applied_term, element_is, field_is, implicit_term, in_range_term, in_type_term, infix_term, parenthesized_term, prefix_term, static_is}
+use Rattle.spx_paths.proofs.CheckLaws.{applied_checks, element_checks, field_checks, implicit_checks, in_range_checks, in_type_checks, infix_checks, parenthesized_checks, prefix_checks, static_unchecked}
 use Rattle.spx_paths.proofs.Operators.{same_lefts}
 
 -- ---- relations between drafts
@@ -200,6 +203,33 @@ module _ {p : Program} {lefts : List TermId} {w : Draft} {e : CoreExpr} where
         let m = v.gives ls ml in
         record { finds = finds_along (implicit_checks p (now_term p) e ls base place a is) m.finds; means = subst (Means x id) (sym (implicit_term (now_term p) (now_term p) e base place a is)) m.means };
   }
+
+  pub eval_selected : {x : Draft} {terms : List Term} {i id : TermId} {y : Selection} (a : CoreExpr) (field : Identifier) (s : Selection) → e ≡ expr.Selected a field s → Keeps w x → Checked p lefts w x a i → y ≡ s → Adds x.steps.terms terms id (field_term y (tree_at x.steps.terms i))
+      → Checked p lefts w (with_terms x terms) e id
+  eval_selected {x} {terms} {i} {id} {y} a field s is kx v same made = record {
+    gives = λ ls ml.
+        let first = v.gives ls ml in
+        let last = only_gives kx.whole (term_of p (now_term p) e) made ((λ n. field_term (same n) (first.means.tree n)) ∙ sym (field_is (now_term p) (now_term p) e a field s is)) in
+        record { finds = finds_along (field_checks p (now_term p) e ls a field s is) (finds_twice first.finds last.finds); means = last.means };
+  }
+
+  module _ (are : AreIds (length w.steps.terms) lefts) where
+    pub eval_element : {x y z : Draft} {terms : List Term} {i j id : TermId} {s r : Indexing} {at : Place} (a : CoreExpr) (place : Place) (b : CoreExpr) (h : Indexing) → e ≡ expr.Element a place b h → Keeps w x → i.0 < length x.steps.terms → Checked p lefts w x a i
+        → Keeps x y → j.0 < length y.steps.terms → Checked p lefts x y b j → s ≡ h → at ≡ place_of b → Keeps y z
+        → ((ls : List Term) (t : Term) → MeanAll y lefts ls → Means y j t → Finds y z (index_check ls s at t)) → r ≡ h
+        → Adds z.steps.terms terms id (element_term r (tree_at z.steps.terms i) (tree_at z.steps.terms j)) → Checked p lefts w (with_terms z terms) e id
+    eval_element {x} {y} {z} {terms} {i} {j} {id} {s} {r} {at} a place b h is kx wi v ky wj v2 same at_is kz check also made = record {
+      gives = λ ls ml.
+          let tb = term_of p (now_term p) b in
+          let first = v.gives ls ml in
+          let second = v2.gives ls (all_kept kx are ml) in
+          let third : Finds y z (index_check ls h (place_of b) tb) =
+          subst (λ (g : Indexing). Finds y z (index_check ls g (place_of b) tb)) same (subst (λ (q : Place). Finds y z (index_check ls s q tb)) at_is (check ls tb (all_kept (keeps_twice kx ky) are ml) second.means)) in
+          let whole = means_kept (keeps_twice ky kz) wi first.means in
+          let index = means_kept kz wj second.means in
+          let last = only_gives kz.whole (term_of p (now_term p) e) made ((λ n. element_term (also n) (whole.tree n) (index.tree n)) ∙ sym (element_is (now_term p) (now_term p) e a place b h is)) in
+          record { finds = finds_along (element_checks p (now_term p) e ls a place b h is) (finds_twice first.finds (finds_twice second.finds (finds_twice third last.finds))); means = last.means };
+    }
 
   module _ (none : None ≡ literal e) (are : AreIds (length w.steps.terms) lefts) where
     pub eval_prefix : {x z : Draft} {terms : List Term} {i id : TermId} {base : BaseType} (o : PrefixOp) (place : Place) (a : CoreExpr) → e ≡ expr.Prefix o place a → Keeps w x → Checked p lefts w x a i

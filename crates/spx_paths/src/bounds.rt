@@ -65,7 +65,7 @@ impl Draft {
                 self.steps.terms.make(Node::Number(least))
             }
             Some(range) => {
-                let low = range.get().low.get();
+                let low = range.low.get();
                 self.bound_id(body, first_name(count.parameter), low)
             }
         }
@@ -83,7 +83,7 @@ impl Draft {
                 self.steps.terms.make(Node::Number(most))
             }
             Some(range) => {
-                let high = range.get().high.get();
+                let high = range.high.get();
                 self.bound_id(body, last_name(count.parameter), high)
             }
         }
@@ -214,7 +214,7 @@ impl Draft {
     {
         match &count.bounds {
             None => self.begin_count(body, count, into),
-            Some(range) => self.enter_range(alloc, body, count, range.get(), into, out),
+            Some(range) => self.enter_range(alloc, body, count, range, into, out),
         }
     }
 

@@ -16,16 +16,18 @@ ghost use Rattle.spx_paths.specs.Drafts.{AddsCuts, Builds, BuildsAlternatives, B
 ghost use Rattle.spx_formula.specs.OwnCuts.{OwnCut};
 ghost use Rattle.spx_paths.specs.Enclosing.{counts};
 ghost use Rattle.spx_formula.specs.Terms.{entry_term, now_term, term_of};
-ghost use Rattle.spx_paths.specs.Walks.{again, asserted, assigned, entering_loop, leaving, noted, noted_cut, one_before, range_check};
+ghost use Rattle.spx_paths.specs.Walks.{again, asserted, assigned, entering_loop, leaving, noted, noted_cut, one_before, part_assigned, range_check, set_tree};
 
 use crate::draft::Draft;
 use crate::within::Within;
 use spx_arena::{Node, TermId};
 use spx_core::{
-    Class, CoreAlternative, CoreArm, CoreExpr, CoreScheme, CoreStmt, Entity, Program, Reference,
-    Sub, Subtype, variable_of,
+    Class, CoreAlternative, CoreArm, CoreExpr, CoreScheme, CoreStmt, Entity, Program, Sub, Subtype,
+    Target, variable_of,
 };
-use spx_formula::{Interface, facts_of_all, in_type, negated_id, now, own_cut};
+use spx_formula::{
+    Interface, facts_of_all, in_type, negated_id, now, own_cut, part_type, with_target_id,
+};
 use spx_meaning::type_of;
 use spx_steps::StepId;
 use spx_term::CondKind;
@@ -101,6 +103,7 @@ impl Draft {
             Class::Integer => self.range_shown(alloc, subtype, place, value, next),
             Class::Enumeration => self.range_shown(alloc, subtype, place, value, next),
             Class::Boolean => Ok(next),
+            Class::Composite => Ok(next),
         }
     }
 
@@ -128,24 +131,94 @@ impl Draft {
         }
     }
 
-    /// A target takes the value of an expression.
-    fn assignment(
+    /// The variable that is denoted takes a value with another part, which lies in the type of the whole.
+    fn part_assigned(
         &mut self,
         alloc: Global,
         program: &Program,
-        target: &Reference,
+        entity: Option<Entity>,
+        whole: TermId,
+        next: StepId,
+    ) -> Result<StepId, AllocError>
+        requires order { InOrder self.old.steps }
+        requires within { (whole.0 < length self.old.steps.terms) × (next.0 < length self.old.steps.nodes) }
+        ensures { IfOk result (λ id. Lays self.old self.new id (part_assigned program.now (variable_of entity) (tree_at self.old.steps.terms whole) (step_tree self.old.steps next))) }
+    {
+        match variable_of(entity) {
+            None => Ok(next),
+            Some(var) => {
+                let name = now(program, var);
+                let value = self.steps.terms.make(Node::Variable(name))?;
+                let subtype = type_of(program, var);
+                let facts = in_type(alloc, &mut self.steps.terms, subtype, value)?;
+                let known = self.steps.assume_all(facts.as_slice(), next)?;
+                let id = self.steps.assign(name, whole, known)?;
+                Ok(id)
+            }
+        }
+    }
+
+    /// A variable takes the value of an expression.
+    fn whole_set(
+        &mut self,
+        alloc: Global,
+        program: &Program,
+        entity: Option<Entity>,
         expr: &CoreExpr,
         next: StepId,
     ) -> Result<StepId, AllocError>
         requires ready { Ready self.old }
         requires within { next.0 < length self.old.steps.nodes }
-        ensures { IfOk result (λ id. Makes self.old self.new id (checks program.now (now_term program.now) [] expr.now (assigned program.now (place_of expr.now) (variable_of target.now.root.entity) (term_of program.now (now_term program.now) expr.now) (step_tree self.old.steps next)))) }
+        ensures { IfOk result (λ id. Makes self.old self.new id (checks program.now (now_term program.now) [] expr.now (assigned program.now (place_of expr.now) (variable_of entity) (term_of program.now (now_term program.now) expr.now) (step_tree self.old.steps next)))) }
     {
         let value = self.checked(alloc, program, expr)?;
-        let entity = target.root.entity;
         let at = self.assigned(alloc, program, expr.place(), entity, value, next)?;
         let id = self.lay(at)?;
         Ok(id)
+    }
+
+    /// A part of a variable takes the value of an expression.
+    fn part_set(
+        &mut self,
+        alloc: Global,
+        program: &Program,
+        target: &Target,
+        expr: &CoreExpr,
+        next: StepId,
+    ) -> Result<StepId, AllocError>
+        requires ready { Ready self.old }
+        requires within { next.0 < length self.old.steps.nodes }
+        requires way { 0 < length target.now.way }
+        ensures { IfOk result (λ id. Makes self.old self.new id (set_tree program.now target.now expr.now (step_tree self.old.steps next))) }
+    {
+        let way = target.way.as_slice();
+        self.check_way(alloc, program, way)?;
+        let value = self.checked_id(alloc, program, &[], expr)?;
+        let whole = with_target_id(program, &mut self.steps.terms, target, value)?;
+        let entity = target.root.entity;
+        let set = self.part_assigned(alloc, program, entity, whole, next)?;
+        let at = self.range_check(alloc, part_type(way), expr.place(), value, set)?;
+        let id = self.lay(at)?;
+        Ok(id)
+    }
+
+    /// A target takes the value of an expression.
+    fn assignment(
+        &mut self,
+        alloc: Global,
+        program: &Program,
+        target: &Target,
+        expr: &CoreExpr,
+        next: StepId,
+    ) -> Result<StepId, AllocError>
+        requires ready { Ready self.old }
+        requires within { next.0 < length self.old.steps.nodes }
+        ensures { IfOk result (λ id. Makes self.old self.new id (set_tree program.now target.now expr.now (step_tree self.old.steps next))) }
+    {
+        match target.way.as_slice() {
+            [] => self.whole_set(alloc, program, target.root.entity, expr, next),
+            [_, ..] => self.part_set(alloc, program, target, expr, next),
+        }
     }
 
     /// The first before the second, or after it.

@@ -10,7 +10,7 @@ use Rattle.spx_formula.specs.Terms.{now_term}
 use Rattle.spx_arena.specs.declared.terms.TermId.{TermId}
 use Rattle.spx_paths.specs.declared.draft.Draft.{Draft}
 use Rattle.spx_paths.specs.Waiting.{Checked}
-use Rattle.spx_paths.proofs.CheckSteps.{eval_applied, eval_free, eval_implicit, eval_in_range, eval_in_type, eval_infix, eval_parenthesized, eval_prefix, eval_static, id_kept, ids_kept, keeps_twice, only_gives, only_keeps, term_gives, term_keeps}
+use Rattle.spx_paths.proofs.CheckSteps.{eval_applied, eval_element, eval_free, eval_implicit, eval_in_range, eval_in_type, eval_infix, eval_parenthesized, eval_prefix, eval_selected, eval_static, id_kept, ids_kept, keeps_twice, only_gives, only_keeps, term_gives, term_keeps}
 use Rattle.spx_paths.proofs.CheckLaws.{attribute_free, entry_free, name_free, number_free}
 use Rattle.spx_paths.proofs.draft.Draft.+checked_id.Goals as goal
 
@@ -156,3 +156,32 @@ checked_id-returns-in_ok-member_id-in-InRange-clause-makes t c =
     c.in_ok-tested-in-InRange.ensures.keeps c.in_ok-tested-in-InRange.ensures.within (at_part c.get-in-InRange.ensures c.in_ok-tested-in-InRange.ensures.makes)
     c.in_ok-low-in-InRange.ensures.keeps c.in_ok-low-in-InRange.ensures.within (at_part c.get-in-InRange-2.ensures c.in_ok-low-in-InRange.ensures.makes)
     c.in_ok-high-in-InRange.ensures.keeps (at_part c.get-in-InRange-3.ensures c.in_ok-high-in-InRange.ensures.makes) c.in_ok-member_id-in-InRange.ensures
+
+pub checked_id-returns-in_ok-field_id-in-Selected-clause-keeps : goal.checked_id-returns-in_ok-field_id-in-Selected-clause-keeps
+checked_id-returns-in_ok-field_id-in-Selected-clause-keeps t c = let k = c.in_ok-prefix-in-Selected.ensures.keeps in keeps_twice k (only_keeps k.whole c.in_ok-field_id-in-Selected.ensures.grown)
+
+pub checked_id-returns-in_ok-field_id-in-Selected-clause-makes : goal.checked_id-returns-in_ok-field_id-in-Selected-clause-makes
+checked_id-returns-in_ok-field_id-in-Selected-clause-makes t c =
+    eval_selected c.in-Selected.prefix c.in-Selected.field-1 c.in-Selected.x c.in-Selected.is
+    c.in_ok-prefix-in-Selected.ensures.keeps (at_part c.get-in-Selected.ensures c.in_ok-prefix-in-Selected.ensures.makes) c.get-in-Selected-2.ensures c.in_ok-field_id-in-Selected.ensures
+
+pub checked_element-checked_id-requires-2 : goal.checked_element-checked_id-requires-2
+checked_element-checked_id-requires-2 t c =
+    let k = c.in_ok-first.ensures.keeps in
+    (search (rules, the_lemmas), (k.whole, ids_kept k c.args.lefts.now c.requires.lefts))
+
+pub checked_element-check_index-requires-clause-lefts : goal.checked_element-check_index-requires-clause-lefts
+checked_element-check_index-requires-clause-lefts t c = ids_kept (keeps_twice c.in_ok-first.ensures.keeps c.in_ok-second.ensures.keeps) c.args.lefts.now c.requires.lefts
+
+pub checked_element-returns-clause-keeps : goal.checked_element-returns-clause-keeps
+checked_element-returns-clause-keeps t c =
+    let k = c.in_ok-check_index.ensures.keeps in
+    keeps_twice c.in_ok-first.ensures.keeps (keeps_twice c.in_ok-second.ensures.keeps (keeps_twice k (only_keeps k.whole c.in_ok-id.ensures.grown)))
+
+pub checked_element-returns-clause-makes : goal.checked_element-returns-clause-makes
+checked_element-returns-clause-makes t c =
+    let x = c.in-Element in
+    eval_element c.requires.lefts x.prefix x.field-1 x.index x.x x.is
+    c.in_ok-first.ensures.keeps c.in_ok-first.ensures.within (at_part c.get-2.ensures c.in_ok-first.ensures.makes)
+    c.in_ok-second.ensures.keeps c.in_ok-second.ensures.within (at_part c.get-3.ensures c.in_ok-second.ensures.makes) c.get-4.ensures (c.place-at.ensures ∙ ap place_of c.get.ensures)
+    c.in_ok-check_index.ensures.keeps c.in_ok-check_index.ensures.walks c.get-5.ensures c.in_ok-id.ensures

@@ -2,7 +2,6 @@ use Rattle.std.proofs.Common.{rules, refl, ap, ◌∙◌}
 use Rattle.std.proofs.lemmas.Int.{to_z-of_z}
 use Rattle.std.proofs.lemmas.Result.{IfOk-weaker}
 use Rattle.std.specs.Int.{w128}
-use Rattle.spx_core.specs.declared.statement.CoreRange.{CoreRange}
 use Rattle.spx_paths.specs.Walks.{bound_term, low_term}
 use Rattle.spx_paths.proofs.BoundLaws.{adds_term, least_is, low_is, term_along}
 use Rattle.spx_paths.proofs.draft.Draft.low_id.Goals as goal
@@ -20,5 +19,5 @@ returns-in-Some c =
     let sub = c.args.body.now.sub.now in
     let name = c.first_name.result in
     IfOk-weaker c.bound_id.result _ _ (λ id m. term_along (low_term p sub c.args.count.now) m
-    (ap (bound_term p sub name) (c.get-low.ensures ∙ ap (λ (range : CoreRange). range.low) c.get.ensures)
+    (ap (bound_term p sub name) c.get-low.ensures
     ∙ low_is p sub c.args.count.now name c.in-Some.range c.in-Some.is c.first_name.ensures)) c.bound_id.ensures

@@ -1,0 +1,20 @@
+use Rattle.std.proofs.Common.{rules}
+use Rattle.std.proofs.lemmas.Int.{to_z-of_z}
+use Rattle.std.specs.Int.{w128}
+use Rattle.spx_term.specs.declared.condition.CondKind.TheVariants.{Index}
+use Rattle.spx_formula.specs.Goals.{in_range}
+use Rattle.spx_paths.proofs.CheckSteps.{check_made, ids_kept, keeps_twice, only_keeps}
+use Rattle.spx_paths.proofs.draft.Draft.check_index.Goals as goal
+
+pub find-requires-clause-whole : goal.find-requires-clause-whole
+find-requires-clause-whole c = (only_keeps c.requires.whole c.in_ok-goals.ensures.grown).whole
+
+pub find-requires-clause-lefts : goal.find-requires-clause-lefts
+find-requires-clause-lefts c = ids_kept (only_keeps c.requires.whole c.in_ok-goals.ensures.grown) _ c.requires.lefts
+
+pub returns-clause-keeps : goal.returns-clause-keeps
+returns-clause-keeps c = keeps_twice (only_keeps c.requires.whole c.in_ok-goals.ensures.grown) c.in_ok-find.ensures.keeps
+
+pub returns-clause-walks : goal.returns-clause-walks
+returns-clause-walks c = λ ls t ml m.
+    check_made Index c.args.place ls (in_range c.args.x.now.index.first c.args.x.now.index.last t) c.requires.whole c.requires.lefts ml c.in_ok-goals.ensures ((λ i. in_range (to_z-of_z w128 c.args.x.now.index.first (search rules) i) (to_z-of_z w128 c.args.x.now.index.last (search rules) i) (m.tree i))) c.in_ok-find.ensures.finds
