@@ -1,5 +1,5 @@
 -- The run of a body and of a call, one part after another.
-use Rattle.std.proofs.Common.{◌≡◌, ℕ, Bool, true, false, ◌++◌, List, length, get_or, take, drop, Option, Some, None, Err, refl, sym, ap, subst, ◌∙◌}
+use Rattle.std.proofs.Common.{◌≡◌, ℕ, Bool, true, false, ◌++◌, List, length, get_or, take, drop, Option, Some, None, Result, Err, refl, sym, ap, subst, ◌∙◌}
 use Rattle.std.specs.Prelude.{◌||◌, slice_get}
 use Rattle.std.proofs.Math.Seq.{take-append_seam}
 use Rattle.std.proofs.lemmas.Option.{get_or_from_slice_get}
@@ -20,7 +20,7 @@ use Rattle.spx_interp.specs.declared.fault.RunFault.{RunFault}
 use Rattle.spx_interp.specs.declared.fault.RunFault.TheVariants.{TooLarge, Memory}
 use Rattle.spx_interp.specs.declared.step.Step.{Step}
 use Rattle.spx_interp.specs.Calls.{IsCall}
-use Rattle.spx_interp.specs.Results.{body_ended, body_ran, call_ran, limited, outcome_of, predicate_looked_at, ran}
+use Rattle.spx_interp.specs.Results.{Done, body_ended, body_ran, call_ran, limited, outcome_of, predicate_looked_at, ran}
 use Rattle.spx_interp.proofs.RunForms.{limited_ended, on_ended}
 
 on_ended_same : (o : Option Outcome) (go go' : Store → Option Outcome) → ((t : Store) → go t ≡ go' t) → on_ended o go ≡ on_ended o go'
@@ -118,6 +118,10 @@ module _ (p : Program) (sub : Sub) (obeys : ObeysRules p sub) (n : ℕ) (s : Sto
 pub faulted : (p : Program) (sub : Sub) (n : ℕ) (s : Store) (fault : RunFault) → ((limit : RunLimit) → fault ≡ TooLarge limit → call_passes p n sub s ≡ true) → IsCall p sub n s (Err fault) s
 faulted p sub n s (TooLarge limit) passed = (passed limit refl, refl)
 faulted p sub n s Memory passed = refl
+
+-- a part that has passed the limit
+pub limited_by : {A : Type 0} (fault : RunFault) (limit : RunLimit) (s : Store) (o : Option Outcome) (r : Result A RunFault) → r ≡ Err fault → r ≡ Err (TooLarge limit) → Done (Err fault) s o → o ≡ None
+limited_by fault limit s o r is wide done = let same : fault ≡ TooLarge limit = cc in subst (λ x. Done (Err x) s o) same done
 
 -- what a slice of all places has written is the whole list
 pub written : (new items : Store) (len : ℕ) → length new ≡ len → take len (new ++ drop (length new) items) ≡ new

@@ -12,13 +12,14 @@ use Rattle.spx_core.specs.Commands.{Command, alternative, alternative_step, alte
 use Rattle.spx_core.proofs.Callers.CommandForms.{command_alternative, command_arm}
 use Rattle.spx_term.specs.declared.value.Value.{Value}
 use Rattle.spx_term.specs.Meaning.{as_truth}
-use Rattle.spx_meaning.specs.declared.bad.Bad.{Bad}
 use Rattle.spx_meaning.specs.Evaluation.{Answer, Gives, Fails, Waits, eval}
 use Rattle.spx_meaning.specs.Frames.{Frame}
 use Rattle.spx_meaning.specs.Runs.{Outcome, has_value}
 use Rattle.spx_meaning.specs.Runs as runs
 use Rattle.spx_meaning.specs.Stores.{Store}
-use Rattle.spx_interp.specs.Results.{alternative_at, arm_at, ran, ran_alternatives, truth_answered}
+use Rattle.spx_interp.specs.declared.stop.Stop.{Stop}
+use Rattle.spx_interp.specs.declared.stop.Stop.TheVariants as stop
+use Rattle.spx_interp.specs.Results.{Answers, Done, OnArm, alternative_at, arm_at, ran, ran_alternatives, stopped, truth_answered}
 use Rattle.spx_interp.proofs.RunForms.{on_value, ran-Choose, ran-Select, ran-Skip, ran_for-Last, ran_for-When}
 
 -- ---- tests that have an answer
@@ -28,8 +29,14 @@ where_tested b (Gives v) go is = ap go (sym is)
 where_tested b (Fails kind place) go is = absurd is
 where_tested b Waits go is = absurd is
 
-pub where_failed : (fault : Bad) (x : Answer) (go : Value → Option Outcome) → truth_answered (Err fault) x → on_value x go ≡ Some (runs.Bad fault.kind fault.place)
-where_failed fault x go is = ap (λ a. on_value a go) is
+-- and those that have none
+pub where_stopped : (e : Stop) (t : Store) (x : Answer) (go : Value → Option Outcome) → truth_answered (Err e) x → Done (stopped e) t (on_value x go)
+where_stopped (stop.Failed fault) t x go is = ap (λ a. on_value a go) is
+where_stopped stop.Memory t x go is = tt
+
+pub arm_stopped : (e : Stop) (x : Answer) (go : Value → Option Outcome) (arm : ℕ → Option Outcome) (otherwise : Option Outcome) → truth_answered (Err e) x → OnArm (Err e) arm otherwise (on_value x go)
+arm_stopped (stop.Failed fault) x go arm otherwise is = ap (λ a. on_value a go) is
+arm_stopped stop.Memory x go arm otherwise is = tt
 
 pub at_truth : (b r : Bool) (x : Answer) → r ≡ b → truth_answered (Ok r) x → truth_answered (Ok b) x
 at_truth b r x is h = subst (λ (t : Bool). truth_answered (Ok t) x) is h
@@ -122,7 +129,8 @@ pub ran_selected : (f : Frame) (n : ℕ) (s : Store) (place : Place) (selector :
     → ran f n s (select place selector (map alternative alternatives)) ≡ ran_alternatives x f n s alternatives
 ran_selected f n s place selector alternatives some x is = ran_select f n s place selector alternatives some ∙ ap (λ a. on_value a (λ v. ran_alternatives v f n s alternatives)) is
 
--- the selector fails
-pub ran_unevaluated : (f : Frame) (n : ℕ) (s : Store) (place : Place) (selector : CoreExpr) (alternatives : List CoreAlternative) → 0 < length alternatives → (fault : Bad) → eval f n s selector ≡ Fails fault.kind fault.place
-    → ran f n s (select place selector (map alternative alternatives)) ≡ Some (runs.Bad fault.kind fault.place)
-ran_unevaluated f n s place selector alternatives some fault is = ran_select f n s place selector alternatives some ∙ ap (λ a. on_value a (λ v. ran_alternatives v f n s alternatives)) is
+-- the selector has none
+pub ran_unevaluated : (f : Frame) (n : ℕ) (s : Store) (place : Place) (selector : CoreExpr) (alternatives : List CoreAlternative) → 0 < length alternatives → (e : Stop) (t : Store) → Answers (Err e) (eval f n s selector)
+    → Done (stopped e) t (ran f n s (select place selector (map alternative alternatives)))
+ran_unevaluated f n s place selector alternatives some (stop.Failed fault) t is = ran_select f n s place selector alternatives some ∙ ap (λ a. on_value a (λ v. ran_alternatives v f n s alternatives)) (sym is)
+ran_unevaluated f n s place selector alternatives some stop.Memory t is = tt

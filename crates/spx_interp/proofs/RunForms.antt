@@ -1,11 +1,12 @@
 -- The run of a command under the limit, at each form.
-use Rattle.std.proofs.Common.{◌≡◌, ℕ, zero, suc, ℤ, Bool, true, false, List, Option, Some, None, refl, ap, ◌∙◌}
+use Rattle.std.proofs.Common.{◌≡◌, ℕ, zero, suc, ℤ, Bool, true, false, List, [], Option, Some, None, Err, refl, sym, ap, ◌∙◌}
 use Rattle.std.specs.Prelude.{not, ◌||◌, ◌&&◌, is_none, option_map, if◌then◌else◌}
 use Rattle.std.specs.Ordering.{int_eq}
 use Rattle.spx_text.specs.declared.place.Place.{Place}
 use Rattle.spx_tree.specs.declared.statement.AssertionKind.{AssertionKind}
 use Rattle.spx_core.specs.declared.expression.CoreExpr.{CoreExpr}
-use Rattle.spx_core.specs.declared.name.Reference.{Reference}
+use Rattle.spx_core.specs.declared.part.PartStep.{PartStep}
+use Rattle.spx_core.specs.declared.part.Target.{Target}
 use Rattle.spx_core.specs.declared.statement.CoreChoice.{CoreChoice}
 use Rattle.spx_core.specs.declared.statement.CoreCount.{CoreCount}
 use Rattle.spx_core.specs.Commands.{Command, Skip, Set, Then, Choose, Select, Assertion, Repeat, Leave, Tested, Endless, Alternatives, Last, When}
@@ -17,12 +18,14 @@ use Rattle.spx_term.specs.Meaning.{as_truth}
 use Rattle.spx_meaning.specs.declared.bad.BadKind.{BadKind}
 use Rattle.spx_meaning.specs.Stores.{Store, put}
 use Rattle.spx_meaning.specs.Frames.{Frame}
-use Rattle.spx_meaning.specs.Evaluation.{Answer, Gives, Fails, Waits, eval}
+use Rattle.spx_meaning.specs.Evaluation.{Answer, Gives, Fails, Waits, eval, eval_on}
 use Rattle.spx_meaning.specs.Annotations.{meant}
-use Rattle.spx_meaning.specs.Runs.{Outcome, Ended, Left, Bad, Later, run, run_for, counted, then_do, use_value, after_turn, assign, demand, untrue, has_value, value_after}
+use Rattle.spx_meaning.specs.Runs.{Outcome, Ended, Left, Bad, Later, run, run_for, counted, then_do, use_value, after_turn, assign, demand, untrue, has_value, stored_on, value_after}
 use Rattle.spx_meaning.specs.Bits.{computed}
 use Rattle.spx_meaning.specs.Limits.{where_ended, where_given, passes, passes_for, passes_in_count}
-use Rattle.spx_interp.specs.Results.{limited, looked_at, ran, ran_for, ran_count}
+use Rattle.spx_interp.specs.Results.{Computes, Done, limited, looked_at, ran, ran_for, ran_count}
+use Rattle.spx_interp.specs.declared.fault.RunFault.{RunFault}
+use Rattle.spx_interp.specs.declared.fault.RunFault.TheVariants.{TooLarge, Memory}
 use Rattle.spx_meaning.proofs.Callers.Annotations.{computed_is_meant}
 
 -- ---- what follows a run, a turn or a value
@@ -83,9 +86,10 @@ module _ (f : Frame) (n : ℕ) (s : Store) where
   unfolding ran
   ran-Leave place = refl
 
-  pub ran-Set : (target : Reference) (e : CoreExpr) → ran f n s (Set target e) ≡ Some (use_value (eval f n s e) (assign f.program (place_of e) (variable_of target.root.entity) s))
+  -- an assignment to a whole variable
+  pub ran-Set : (target : Target) (e : CoreExpr) → target.way ≡ [] → ran f n s (Set target e) ≡ Some (use_value (eval f n s e) (assign f.program (place_of e) (variable_of target.root.entity) s))
   unfolding ran
-  ran-Set target e = refl
+  ran-Set target e whole = ap (λ (way : List PartStep). Some (use_value (eval_on way f n s target.root e) (stored_on way f.program (place_of e) (variable_of target.root.entity) s))) whole
 
   pub ran-Then : (a b : Command) → ran f n s (Then a b) ≡ on_ended (ran f n s a) (λ t. ran f n t b)
   unfolding ran
@@ -210,6 +214,11 @@ by_truth None kind place s = refl
 pub looked_at_is : (f : Frame) (s : Store) (kind : BadKind) (place : Place) (e : CoreExpr) → looked_at f s kind place e ≡ on_truth (option_map as_truth (computed f s e)) kind place s
 looked_at_is f s kind place e = looked (computed f s e) (meant f s e) kind place s (computed_is_meant f s e) ∙ by_truth (computed f s e) kind place s
 
+-- where it computes nothing, there is no answer
+pub unlooked : (f : Frame) (s : Store) (kind : BadKind) (place : Place) (e : CoreExpr) (fault : RunFault) → Computes (Err fault) (option_map as_truth (computed f s e)) → Done (Err fault) s (looked_at f s kind place e)
+unlooked f s kind place e (TooLarge limit) is = looked_at_is f s kind place e ∙ ap (λ o. on_truth o kind place s) (sym is)
+unlooked f s kind place e Memory is = tt
+
 -- ---- all of them
 
-pub ruleset run_forms = (ran-Skip, ran-Leave, ran-Set, ran-Then, ran-Choose, ran-Select, ran_for-Last, ran_for-When, ran-Assertion)
+pub ruleset run_forms = (ran-Skip, ran-Leave, ran-Then, ran-Choose, ran-Select, ran_for-Last, ran_for-When, ran-Assertion)

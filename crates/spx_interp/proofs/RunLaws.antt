@@ -1,29 +1,36 @@
 -- The run of statements in a row, and of loops, one step after another.
-use Rattle.std.proofs.Common.{◌≡◌, ℕ, zero, suc, ◌+◌, ◌<◌, ◌≤◌, ℤ, Bool, true, false, List, length, get_or, drop, Option, Some, None, Result, Ok, Err, refl, sym, ap, ap₂, ◌∙◌, arith}
+use Rattle.std.proofs.Common.{◌≡◌, ℕ, zero, suc, ◌+◌, ◌<◌, ◌≤◌, ℤ, Bool, true, false, List, [], length, get_or, drop, Option, Some, None, Result, Ok, Err, refl, sym, ap, ap₂, subst, ◌∙◌, arith}
 use Rattle.std.specs.Prelude.{◌&&◌, int_le, int_lt, if◌then◌else◌}
 use Rattle.std.specs.Ordering.{int_eq}
-use Rattle.std.specs.Result.{IsErrAnd}
 use Rattle.std.proofs.lemmas.Int.{ints}
 use Rattle.std.proofs.lemmas.List.{drop_all, drop_more}
 use Rattle.spx_core.specs.declared.function.Span.{Span}
 use Rattle.spx_core.specs.declared.statement.CoreCount.{CoreCount}
 use Rattle.spx_core.specs.declared.statement.CoreStmt.{CoreStmt}
-use Rattle.spx_core.specs.Commands.{Command, Repeat, Head, Tested, Counted, Endless, command, commands}
+use Rattle.spx_core.specs.declared.expression.CoreExpr.{CoreExpr}
+use Rattle.spx_core.specs.declared.part.Target.{Target}
+use Rattle.spx_core.specs.Places.{place_of}
+use Rattle.spx_core.specs.Uses.{variable_of}
+use Rattle.spx_core.specs.Commands.{Command, Set, Repeat, Head, Tested, Counted, Endless, command, commands}
+use Rattle.spx_term.specs.declared.value.Value.{Value}
 use Rattle.spx_term.specs.declared.value.Value.TheVariants.{Number}
 use Rattle.spx_term.specs.Meaning.{as_truth}
-use Rattle.spx_meaning.specs.declared.bad.Bad.{Bad}
+use Rattle.spx_meaning.specs.Evaluation.{Gives, eval}
 use Rattle.spx_meaning.specs.Frames.{Frame}
 use Rattle.spx_meaning.specs.Limits.{passes, passes_after_bounds, passes_in_count, passes_in_range}
-use Rattle.spx_meaning.specs.Runs.{Outcome, Ended, Left, Later, counted, end_of, over_range, run, start_of, then_do, value_after, with_bounds}
+use Rattle.spx_meaning.specs.Runs.{Outcome, Ended, Left, Later, assign, counted, end_of, over_range, run, start_of, then_do, use_value, value_after, with_bounds}
 use Rattle.spx_meaning.specs.Runs as runs
 use Rattle.spx_meaning.specs.Stores.{Store, put, type_of}
-use Rattle.spx_num.specs.declared.arithmetic.TooWide.{TooWide}
 use Rattle.spx_interp.specs.declared.step.Step.{Step}
 use Rattle.spx_interp.specs.declared.step.Step.TheVariants as step
-use Rattle.spx_interp.specs.Results.{done, has_ended, limited, on_bounds, outcome_of, past_loop, ran, ran_count, test_of, truth_answered, where_bounds}
+use Rattle.spx_interp.specs.declared.stop.Stop.{Stop}
+use Rattle.spx_interp.specs.declared.stop.Stop.TheVariants as stop
+use Rattle.spx_interp.specs.declared.fault.RunFault.{RunFault}
+use Rattle.spx_interp.specs.declared.fault.RunFault.TheVariants.{TooLarge, Memory}
+use Rattle.spx_interp.specs.Results.{Answers, Done, OnBounds, WhereBounds, has_ended, limited, outcome_of, past_loop, ran, ran_count, stopped, test_of, truth_answered}
 use Rattle.spx_interp.specs.Rooms.{IsTested}
-use Rattle.spx_interp.proofs.RunForms.{on_ended, on_turn, on_value, ran-Endless, ran-Endless-zero, ran-Skip, ran-Tested, ran-Tested-zero, ran-Then, ran_count-suc, ran_count-zero}
-use Rattle.spx_interp.proofs.ChoiceLaws.{where_failed, where_tested}
+use Rattle.spx_interp.proofs.RunForms.{on_ended, on_turn, on_value, ran-Endless, ran-Endless-zero, ran-Set, ran-Skip, ran-Tested, ran-Tested-zero, ran-Then, ran_count-suc, ran_count-zero}
+use Rattle.spx_interp.proofs.ChoiceLaws.{where_stopped, where_tested}
 
 -- ---- statements in a row
 
@@ -66,10 +73,25 @@ turn_leaves o step.Left t go is ended = ap (λ x. on_turn x go) is
 turn_leaves o (step.Failed fault) t go is ended = ap (λ x. on_turn x go) is
 turn_leaves o step.Later t go is ended = ap (λ x. on_turn x go) is
 
--- there is no answer
-pub refused : (Q : TooWide → Type 0) (r : Result Step TooWide) (t : Store) → IsErrAnd r Q → done r t ≡ None
-refused Q (Ok step) t is = absurd is
-refused Q (Err fault) t is = refl
+-- where a part has no answer, the whole has none
+pub refused : (K : Option Outcome → Option Outcome) (fault : RunFault) (r : Result Step RunFault) (s t : Store) (o whole : Option Outcome) → K None ≡ None → r ≡ Err fault → Done (Err fault) s o → whole ≡ K o → Done r t whole
+refused K fault r s t o whole none is done parts = subst (λ x. Done x t whole) (sym is) (subst (Done (Err fault) t) (sym parts) (handed fault done))
+  where
+    handed : (fault : RunFault) → Done (Err fault) s o → Done (Err fault) t (K o)
+    handed (TooLarge limit) done = ap K done ∙ none
+    handed Memory done = tt
+
+-- ---- assignments to whole variables
+
+module _ (f : Frame) (n : ℕ) (s : Store) (target : Target) (e : CoreExpr) (whole : target.way ≡ []) where
+  -- the right side has a value
+  pub set_given : (x : Value) → Gives x ≡ eval f n s e → ran f n s (Set target e) ≡ Some (assign f.program (place_of e) (variable_of target.root.entity) s x)
+  set_given x is = ran-Set f n s target e whole ∙ ap (λ a. Some (use_value a (assign f.program (place_of e) (variable_of target.root.entity) s))) (sym is)
+
+  -- it has none
+  pub set_stops : (x : Stop) (t : Store) → Answers (Err x) (eval f n s e) → Done (stopped x) t (ran f n s (Set target e))
+  set_stops (stop.Failed fault) t is = ran-Set f n s target e whole ∙ ap (λ a. Some (use_value a (assign f.program (place_of e) (variable_of target.root.entity) s))) (sym is)
+  set_stops stop.Memory t is = tt
 
 -- ---- loops that do not count
 
@@ -91,11 +113,12 @@ module _ (f : Frame) (head : Head) (body : Command) where
   loop_ends is (suc n) s tested =
       again head is n s ∙ where_tested false (test_of f (suc n) s head) (λ b. if b then on_turn (ran f n s body) (λ t. ran f n t (Repeat head body)) else Some (Ended s)) tested
 
-  -- the test fails
-  pub loop_fails : IsTested head → (n : ℕ) (s : Store) (fault : Bad) → truth_answered (Err fault) (test_of f n s head) → ran f n s (Repeat head body) ≡ Some (runs.Bad fault.kind fault.place)
-  loop_fails is zero s fault tested = at_zero head is s ∙ where_failed fault (test_of f zero s head) (λ v. if as_truth v then Some Later else Some (Ended s)) tested
-  loop_fails is (suc n) s fault tested =
-      again head is n s ∙ where_failed fault (test_of f (suc n) s head) (λ v. if as_truth v then on_turn (ran f n s body) (λ t. ran f n t (Repeat head body)) else Some (Ended s)) tested
+  -- the test has no answer
+  pub loop_fails : IsTested head → (n : ℕ) (s : Store) (e : Stop) (t : Store) → truth_answered (Err e) (test_of f n s head) → Done (stopped e) t (ran f n s (Repeat head body))
+  loop_fails is zero s e t tested = subst (Done (stopped e) t) (sym (at_zero head is s)) (where_stopped e t (test_of f zero s head) (λ v. if as_truth v then Some Later else Some (Ended s)) tested)
+  loop_fails is (suc n) s e t tested =
+      subst (Done (stopped e) t) (sym (again head is n s))
+      (where_stopped e t (test_of f (suc n) s head) (λ v. if as_truth v then on_turn (ran f n s body) (λ t. ran f n t (Repeat head body)) else Some (Ended s)) tested)
 
   -- the test is true, and the bound is used up
   pub loop_waits : IsTested head → (n : ℕ) (s : Store) → n ≡ 0 → truth_answered (Ok true) (test_of f n s head) → ran f n s (Repeat head body) ≡ Some Later
@@ -125,19 +148,21 @@ module _ (f : Frame) (c : CoreCount) (body : Command) where
   abbrev unset_after : Store → Outcome
   unset_after t = Ended (put t c.parameter None)
 
-  abbrev HasBounds : ℕ → Store → Result Span Bad → Type 0
+  abbrev HasBounds : ℕ → Store → Result Span Stop → Type 0
   HasBounds n s r =
-      ((go : (low high : ℤ) → Store → Outcome) → with_bounds f n s (type_of f.program c.parameter) c.bounds go ≡ on_bounds r s go)
-      × ((test : (low high : ℤ) → Store → Bool) → passes_after_bounds f n s (type_of f.program c.parameter) c.bounds test ≡ where_bounds r s test)
+      ((go : (low high : ℤ) → Store → Outcome) → OnBounds r s go (with_bounds f n s (type_of f.program c.parameter) c.bounds go))
+      × ((test : (low high : ℤ) → Store → Bool) → WhereBounds r s test (passes_after_bounds f n s (type_of f.program c.parameter) c.bounds test))
 
-  by_bounds : (n : ℕ) (s : Store) (r : Result Span Bad) → HasBounds n s r
-      → ran f n s (Repeat (Counted c) body) ≡ limited (where_bounds r s (passes_in_range c (λ k t. run f k t body) (λ k t. passes f k t body) n)) (on_bounds r s (over_range c (λ k t. run f k t body) n))
+  by_bounds : (n : ℕ) (s : Store) (span : Span) → HasBounds n s (Ok span)
+      → ran f n s (Repeat (Counted c) body) ≡ limited (passes_in_range c (λ k t. run f k t body) (λ k t. passes f k t body) n span.first span.last s) (over_range c (λ k t. run f k t body) n span.first span.last s)
   unfolding ran
-  by_bounds n s r has = ap₂ limited (has.1 (passes_in_range c (λ k t. run f k t body) (λ k t. passes f k t body) n)) (has.0 (over_range c (λ k t. run f k t body) n))
+  by_bounds n s span has = ap₂ limited (has.1 (passes_in_range c (λ k t. run f k t body) (λ k t. passes f k t body) n)) (has.0 (over_range c (λ k t. run f k t body) n))
 
-  -- a bound fails
-  pub count_fails : (n : ℕ) (s : Store) (fault : Bad) → HasBounds n s (Err fault) → ran f n s (Repeat (Counted c) body) ≡ Some (runs.Bad fault.kind fault.place)
-  count_fails n s fault has = by_bounds n s (Err fault) has
+  -- a bound has no value
+  pub count_fails : (n : ℕ) (s : Store) (e : Stop) (t : Store) → HasBounds n s (Err e) → Done (stopped e) t (ran f n s (Repeat (Counted c) body))
+  unfolding ran
+  count_fails n s (stop.Failed fault) t has = ap₂ limited (has.1 (passes_in_range c (λ k t. run f k t body) (λ k t. passes f k t body) n)) (has.0 (over_range c (λ k t. run f k t body) n))
+  count_fails n s stop.Memory t has = tt
 
   in_range : (b : Bool) (p : Bool) (o : Outcome) (s : Store) → limited (b && p) (then_do (if b then o else Ended s) unset_after) ≡ (if b then on_ended (limited p o) (λ t. Some (unset_after t)) else Some (unset_after s))
   in_range true p o s = limited_then p o unset_after
@@ -152,7 +177,7 @@ module _ (f : Frame) (c : CoreCount) (body : Command) where
   over n s span has =
       let low = span.first in
       let high = span.last in
-      by_bounds n s (Ok span) has
+      by_bounds n s span has
       ∙ in_range (int_le low high)
       (passes_in_count c (λ k t. run f k t body) (λ k t. passes f k t body) (end_of c low high) n (start_of c low high) s)
       (counted c (λ k t. run f k t body) (end_of c low high) n (start_of c low high) s) s

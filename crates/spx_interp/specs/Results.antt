@@ -1,5 +1,5 @@
 -- What the answers of this crate say of evaluations and runs.
-use Rattle.std.specs.Prelude.{◌≡◌, ℕ, zero, suc, ℤ, int_le, Bool, true, false, if◌then◌else◌, List, [], ◌∷◌, map, Option, Some, None, Result, Ok, Err}
+use Rattle.std.specs.Prelude.{◌≡◌, ⊤, ℕ, zero, suc, ℤ, int_le, Bool, true, false, if◌then◌else◌, List, [], ◌∷◌, map, Option, Some, None, Result, Ok, Err}
 use Rattle.spx_text.specs.declared.place.Place.{Place}
 use Rattle.spx_core.specs.declared.expression.CoreExpr.{CoreExpr}
 use Rattle.spx_core.specs.declared.entity.Class.TheVariants.{Integer}
@@ -11,7 +11,6 @@ use Rattle.spx_core.specs.declared.subprogram.CorePredicate.{CorePredicate}
 use Rattle.spx_core.specs.declared.program.Program.{Program}
 use Rattle.spx_core.specs.declared.subprogram.Sub.{Sub}
 use Rattle.spx_core.specs.Commands.{Command, Skip, Alternatives, Head, Tested, Counted, Endless, alternative, alternatives_of, commands}
-use Rattle.spx_num.specs.declared.arithmetic.TooWide.{TooWide}
 use Rattle.spx_term.specs.declared.value.Value.{Value}
 use Rattle.spx_term.specs.declared.value.Value.TheVariants.{Truth}
 use Rattle.spx_term.specs.Meaning.{as_truth}
@@ -25,8 +24,12 @@ use Rattle.spx_meaning.specs.Annotations.{truth}
 use Rattle.spx_meaning.specs.Runs as runs
 use Rattle.spx_meaning.specs.Bits.{is_too_large}
 use Rattle.spx_interp.specs.declared.body.Body.{Body}
+use Rattle.spx_interp.specs.declared.fault.RunFault.{RunFault}
+use Rattle.spx_interp.specs.declared.fault.RunFault.TheVariants.{TooLarge, Memory}
 use Rattle.spx_interp.specs.declared.step.Step.{Step}
 use Rattle.spx_interp.specs.declared.step.Step.TheVariants as step
+use Rattle.spx_interp.specs.declared.stop.Stop.{Stop}
+use Rattle.spx_interp.specs.declared.stop.Stop.TheVariants as stop
 use Rattle.spx_meaning.specs.Limits.{where_ended, passes, passes_for, passes_in_count, passes_in_predicate, body_passes, call_passes}
 
 abbrev pub frame_of : Body → Frame
@@ -42,12 +45,24 @@ abbrev pub bounded : (first last : ℤ) → BadKind → Place → Option Value �
 bounded first last kind place (Some x) = if is_within Integer first last x then Gives x else Fails kind place
 bounded first last kind place None = Fails kind place
 
+-- the result is the answer; nothing is said where memory runs out
+abbrev pub Answers : Result Value Stop → Answer → Type 0
+Answers (Ok x) answer = Gives x ≡ answer
+Answers (Err (stop.Failed fault)) answer = Fails fault.kind fault.place ≡ answer
+Answers (Err stop.Memory) answer = ⊤
+
 -- the result of a test is the truth of the answer
-abbrev pub truth_answered : Result Bool Bad → Answer → Type 0
+abbrev pub truth_answered : Result Bool Stop → Answer → Type 0
 truth_answered (Ok b) (Gives x) = b ≡ as_truth x
 truth_answered (Ok b) (Fails kind place) = ⊥
 truth_answered (Ok b) Waits = ⊥
-truth_answered (Err fault) answer = answer ≡ Fails fault.kind fault.place
+truth_answered (Err (stop.Failed fault)) answer = answer ≡ Fails fault.kind fault.place
+truth_answered (Err stop.Memory) answer = ⊤
+
+-- how statements end that want a value which is not there
+abbrev pub stopped : Stop → Result Step RunFault
+stopped (stop.Failed fault) = Ok (step.Failed fault)
+stopped stop.Memory = Err Memory
 
 -- how a run has ended, with the store that it has left
 abbrev pub outcome_of : Step → Store → runs.Outcome
@@ -74,9 +89,11 @@ abbrev pub limited : Bool → runs.Outcome → Option runs.Outcome
 limited true outcome = None
 limited false outcome = Some outcome
 
-abbrev pub done : Result Step TooWide → Store → Option runs.Outcome
-done (Ok step) s = Some (outcome_of step s)
-done (Err fault) s = None
+-- the run has ended so, or has passed the limit; nothing is said where memory runs out
+abbrev pub Done : Result Step RunFault → Store → Option runs.Outcome → Type 0
+Done (Ok step) s outcome = outcome ≡ Some (outcome_of step s)
+Done (Err (TooLarge limit)) s outcome = outcome ≡ None
+Done (Err Memory) s outcome = ⊤
 
 -- the run of a command under the limit
 unfoldable pub ran : Frame → ℕ → Store → Command → Option runs.Outcome
@@ -93,14 +110,17 @@ test_of f n s (Tested place condition) = eval f n s condition
 test_of f n s (Counted c) = Gives (Truth true)
 test_of f n s Endless = Gives (Truth true)
 
--- what follows the bounds of a loop
-abbrev pub on_bounds : Result Span Bad → Store → ((low high : ℤ) → Store → runs.Outcome) → runs.Outcome
-on_bounds (Ok span) s go = go span.first span.last s
-on_bounds (Err fault) s go = runs.Bad fault.kind fault.place
+-- the outcome is what follows the bounds of a loop
+abbrev pub OnBounds : Result Span Stop → Store → ((low high : ℤ) → Store → runs.Outcome) → runs.Outcome → Type 0
+OnBounds (Ok span) s go outcome = outcome ≡ go span.first span.last s
+OnBounds (Err (stop.Failed fault)) s go outcome = outcome ≡ runs.Bad fault.kind fault.place
+OnBounds (Err stop.Memory) s go outcome = ⊤
 
-abbrev pub where_bounds : Result Span Bad → Store → ((low high : ℤ) → Store → Bool) → Bool
-where_bounds (Ok span) s test = test span.first span.last s
-where_bounds (Err fault) s test = false
+-- and so is the test
+abbrev pub WhereBounds : Result Span Stop → Store → ((low high : ℤ) → Store → Bool) → Bool → Type 0
+WhereBounds (Ok span) s test passed = passed ≡ test span.first span.last s
+WhereBounds (Err (stop.Failed fault)) s test passed = passed ≡ false
+WhereBounds (Err stop.Memory) s test passed = ⊤
 
 -- the last value comes after the first one, or is the first one
 abbrev pub IsWay : CoreCount → (first last : ℤ) → Type 0
@@ -118,11 +138,12 @@ arm_at [] k = Skip
 arm_at (arm ∷ arms) zero = commands (out-CoreArm arm).body
 arm_at (arm ∷ arms) (suc k) = arm_at arms k
 
--- the run of the arm that was found, or what is done where there is none
-abbrev pub on_arm : Result (Option ℕ) Bad → (ℕ → Option runs.Outcome) → Option runs.Outcome → Option runs.Outcome
-on_arm (Ok (Some k)) arm otherwise = arm k
-on_arm (Ok None) arm otherwise = otherwise
-on_arm (Err fault) arm otherwise = Some (runs.Bad fault.kind fault.place)
+-- the outcome is the run of the arm that was found, or what is done where there is none
+abbrev pub OnArm : Result (Option ℕ) Stop → (ℕ → Option runs.Outcome) → Option runs.Outcome → Option runs.Outcome → Type 0
+OnArm (Ok (Some k)) arm otherwise outcome = outcome ≡ arm k
+OnArm (Ok None) arm otherwise outcome = outcome ≡ otherwise
+OnArm (Err (stop.Failed fault)) arm otherwise outcome = outcome ≡ Some (runs.Bad fault.kind fault.place)
+OnArm (Err stop.Memory) arm otherwise outcome = ⊤
 
 -- the statements of the alternative at the position
 abbrev pub alternative_at : List CoreAlternative → ℕ → Command
@@ -135,6 +156,12 @@ ran_alternatives x f n s [] = Some (runs.Ended s)
 ran_alternatives x f n s (a ∷ rest) = ran_for x f n s (alternatives_of (alternative a) (map alternative rest))
 
 -- ---- annotations
+
+-- what an annotation computes, if 128 bits hold its numbers; nothing is said where memory runs out
+abbrev pub Computes : {A : Type 0} → Result A RunFault → Option A → Type 0
+Computes (Ok x) found = Some x ≡ found
+Computes (Err (TooLarge limit)) found = None ≡ found
+Computes (Err Memory) found = ⊤
 
 -- an annotation that is false is bad, if 128 bits hold its numbers
 abbrev pub looked_at : Frame → Store → BadKind → Place → CoreExpr → Option runs.Outcome

@@ -11,7 +11,7 @@ ghost use Rattle.spx_interp.specs.declared.fault.Finish.TheVariants.{Ended};
 ghost use Rattle.spx_interp.specs.declared.fault.RunLimit.{RunLimit};
 ghost use Rattle.spx_interp.specs.declared.fault.RunFault.TheVariants.{TooLarge};
 ghost use Rattle.spx_interp.specs.Calls.{AreExports, IsCall};
-ghost use Rattle.spx_interp.specs.Results.{body_ended, body_ran, call_ran, done, frame_of, outcome_of, predicate_looked_at};
+ghost use Rattle.spx_interp.specs.Results.{Done, body_ended, body_ran, call_ran, frame_of, outcome_of, predicate_looked_at};
 ghost use Rattle.spx_interp.specs.Rooms.{HasRoom, VarsHaveRoom};
 
 use crate::body::Body;
@@ -23,7 +23,6 @@ use crate::step::Step;
 use spx_core::laws::{names_are_scoped, rules_hold};
 use spx_core::{CorePredicate, Program, Sub, SubId, VarSet};
 use spx_meaning::{Bad, BadKind, Scalar, Store};
-use spx_num::TooWide;
 use std::alloc::Global;
 
 /// Looks at a precondition or a postcondition. None is true.
@@ -32,8 +31,8 @@ fn look_at_predicate(
     store: &[Option<Scalar>],
     kind: BadKind,
     predicate: &Option<CorePredicate>,
-) -> Result<Step, TooWide>
-    ensures { predicate_looked_at (frame_of body.now) store.now kind predicate.now ≡ done result store.now }
+) -> Result<Step, RunFault>
+    ensures { Done result store.now (predicate_looked_at (frame_of body.now) store.now kind predicate.now) }
 {
     match predicate {
         Some(predicate) => look_at(
@@ -61,9 +60,9 @@ fn exports_set(sub: &Sub, exports: &VarSet, store: &[Option<Scalar>]) -> bool
 }
 
 /// Looks at what must hold at the end: each export is set, and the postcondition is true.
-fn end_body(body: &Body, exports: &VarSet, store: &[Option<Scalar>]) -> Result<Step, TooWide>
+fn end_body(body: &Body, exports: &VarSet, store: &[Option<Scalar>]) -> Result<Step, RunFault>
     requires { AreExports body.now.sub.now exports.now }
-    ensures { body_ended (frame_of body.now) store.now ≡ done result store.now }
+    ensures { Done result store.now (body_ended (frame_of body.now) store.now) }
 {
     if exports_set(body.sub, exports, store) {
         look_at_predicate(body, store, BadKind::Post, &body.sub.post)
@@ -81,11 +80,11 @@ fn run_body(
     exports: &VarSet,
     turns: u64,
     store: &mut [Option<Scalar>],
-) -> Result<Step, TooWide>
+) -> Result<Step, RunFault>
     requires exports { AreExports body.now.sub.now exports.now }
     requires entry { store.old ≡ body.now.entry.now }
     requires room { HasRoom (length store.old) (commands body.now.sub.now.statements) }
-    ensures { body_ran (frame_of body.now) turns ≡ done result store.new }
+    ensures { Done result store.new (body_ran (frame_of body.now) turns) }
 {
     let before = look_at_predicate(body, store, BadKind::Pre, &body.sub.pre)?;
     if !before.has_ended() {

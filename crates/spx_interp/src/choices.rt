@@ -5,13 +5,14 @@ ghost use Rattle.spx_core.specs.Types.{is_chosen};
 ghost use Rattle.spx_meaning.specs.Frames.{Frame};
 ghost use Rattle.spx_meaning.specs.Runs.{has_value};
 ghost use Rattle.spx_meaning.specs.Stores.{Store};
-ghost use Rattle.spx_interp.specs.Results.{alternative_at, arm_at, frame_of, on_arm, ran, ran_alternatives};
+ghost use Rattle.spx_interp.specs.Results.{OnArm, alternative_at, arm_at, frame_of, ran, ran_alternatives};
 
 use crate::body::Body;
 use crate::evaluation::is_true;
+use crate::stop::Stop;
 use spx_core::{CoreAlternative, CoreArm, CoreChoice, Span};
-use spx_meaning::{Bad, Scalar};
-use sqlite_items::{Boxed, Items};
+use spx_meaning::Scalar;
+use sqlite_items::Items;
 
 /// The values of a choice.
 fn values_of(choice: &CoreChoice) -> Span
@@ -40,11 +41,11 @@ fn is_chosen(number: i128, choices: &[CoreChoice]) -> bool
 }
 
 /// Whether one of the choices has the value. `others` has every value.
-fn has_value(choices: &Option<Boxed<Items<CoreChoice>>>, value: Scalar) -> bool
+fn has_value(choices: &Option<Items<CoreChoice>>, value: Scalar) -> bool
     ensures { result ≡ has_value choices.now value }
 {
     match choices {
-        Some(choices) => is_chosen(value.as_number(), choices.get().as_slice()),
+        Some(choices) => is_chosen(value.as_number(), choices.as_slice()),
         None => true,
     }
 }
@@ -55,15 +56,15 @@ pub(crate) fn first_arm(
     turns: u64,
     store: &[Option<Scalar>],
     arms: &[CoreArm],
-) -> Result<Option<usize>, Bad>
+) -> Result<Option<usize>, Stop>
     ensures within { IfOk result (λ found. IfSome found (λ k. k < length arms.now)) }
-    ensures runs { (otherwise : Command) → ran (frame_of body.now) turns store.now (arms_before otherwise (map arm_before arms.now)) ≡ on_arm result (λ k. ran (frame_of body.now) turns store.now (arm_at arms.now k)) (ran (frame_of body.now) turns store.now otherwise) }
+    ensures runs { (otherwise : Command) → OnArm result (λ k. ran (frame_of body.now) turns store.now (arm_at arms.now k)) (ran (frame_of body.now) turns store.now otherwise) (ran (frame_of body.now) turns store.now (arms_before otherwise (map arm_before arms.now))) }
 {
     for k in 0..arms.len() {
         match is_true(body, turns, store, arms[k].condition.get()) {
             Ok(true) => return Ok(Some(k)),
             Ok(false) => {}
-            Err(bad) => return Err(bad),
+            Err(stop) => return Err(stop),
         }
     }
     Ok(None)

@@ -11,12 +11,13 @@ ghost use Rattle.spx_meaning.specs.Evaluation.{Gives, Fails, checked, decided, e
 ghost use Rattle.spx_meaning.specs.Literals.{base_of, literal};
 ghost use Rattle.spx_meaning.specs.Stores.{is_within};
 ghost use Rattle.spx_meaning.specs.Bits.{held};
-ghost use Rattle.spx_interp.specs.Results.{answered, bounded, frame_of, truth_answered};
+ghost use Rattle.spx_interp.specs.Results.{Answers, answered, bounded, frame_of, truth_answered};
 
 use crate::body::Body;
 use crate::numbers::{modulus, remainder};
 use crate::operations::{applied, member, moved, signed};
 use crate::slots::look;
+use crate::stop::{Stop, answer};
 use spx_core::{BaseType, Class, CoreExpr, CoreFunction, Reference, Span, VarId, variable_of};
 use spx_meaning::{Bad, BadKind, Scalar, is_within};
 use spx_static::{base_of, literal, subtype_of};
@@ -199,7 +200,7 @@ fn read(store: &[Option<Scalar>], place: Place, var: Option<VarId>) -> Result<Sc
     })
 }
 
-/// The value of an expression within a bound. A static one stands for its value.
+/// The value of an expression within a bound. A static one stands for its value. There is no memory yet for values with parts.
 #[cycle(eval)]
 #[tactic(auto, using(crate::proofs::EvalLaws::eval_laws))]
 pub(crate) fn eval(
@@ -207,26 +208,26 @@ pub(crate) fn eval(
     turns: u64,
     store: &[Option<Scalar>],
     expr: &CoreExpr,
-) -> Result<Scalar, Bad>
-    ensures { answered result ≡ eval (frame_of body.now) turns store.now expr.now }
+) -> Result<Scalar, Stop>
+    ensures { Answers result (eval (frame_of body.now) turns store.now expr.now) }
 {
     if let Some(value) = literal(expr) {
         return Ok(value);
     }
     match expr {
         CoreExpr::Number(number, _) => Ok(Scalar::number(*number)),
-        CoreExpr::Name(name) => read(store, name.name.place, variable_of(name.entity)),
-        CoreExpr::Entry(name, _) => read(store, name.name.place, variable_of(name.entity)),
+        CoreExpr::Name(name) => answer(read(store, name.name.place, variable_of(name.entity))),
+        CoreExpr::Entry(name, _) => answer(read(store, name.name.place, variable_of(name.entity))),
         CoreExpr::Attribute(_, _) => Ok(Scalar::number(0)),
         CoreExpr::Applied(function, _, operand) => {
             let value = eval(body, turns, store, operand.get())?;
-            mapping_checked(function, operand.get().place(), value)
+            answer(mapping_checked(function, operand.get().place(), value))
         }
         CoreExpr::Parenthesized(_, inner) => eval(body, turns, store, inner.get()),
         CoreExpr::Implicit(_, _, operand) => eval(body, turns, store, operand.get()),
         CoreExpr::Prefix(op, place, operand) => {
             let value = eval(body, turns, store, operand.get())?;
-            sign_checked(*op, base_of(expr), *place, value)
+            answer(sign_checked(*op, base_of(expr), *place, value))
         }
         CoreExpr::Infix(op, place, left, right) => {
             let first = eval(body, turns, store, left.get())?;
@@ -235,7 +236,7 @@ pub(crate) fn eval(
             }
             let second = eval(body, turns, store, right.get())?;
             let right_place = right.get().place();
-            checked(*op, base_of(expr), *place, right_place, first, second)
+            answer(checked(*op, base_of(expr), *place, right_place, first, second))
         }
         CoreExpr::InType(op, _, tested, name) => {
             let value = eval(body, turns, store, tested.get())?;
@@ -247,6 +248,7 @@ pub(crate) fn eval(
             let last = eval(body, turns, store, high.get())?;
             Ok(member(*op, value, first, last))
         }
+        CoreExpr::Element(..) | CoreExpr::Selected(..) => Err(Stop::Memory),
     }
 }
 
@@ -256,7 +258,7 @@ pub(crate) fn is_true(
     turns: u64,
     store: &[Option<Scalar>],
     condition: &CoreExpr,
-) -> Result<bool, Bad>
+) -> Result<bool, Stop>
     ensures { truth_answered result (eval (frame_of body.now) turns store.now condition.now) }
 {
     let value = eval(body, turns, store, condition)?;

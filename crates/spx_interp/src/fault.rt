@@ -1,7 +1,6 @@
 // How a run ends, and why there is no answer.
 
 use spx_meaning::Bad;
-use spx_num::TooWide;
 use std::alloc::AllocError;
 use thiserror::Error;
 
@@ -41,17 +40,5 @@ impl From<AllocError> for RunFault {
 
     fn from(_: AllocError) -> Self {
         RunFault::Memory
-    }
-}
-
-impl From<TooWide> for RunFault {
-    ghost use Rattle.std.specs.Prelude.{◌≡◌};
-    ghost use Rattle.spx_interp.specs.declared.fault.RunLimit.TheVariants.{Bits};
-    ghost use Rattle.spx_interp.specs.declared.fault.RunFault.TheVariants.{TooLarge};
-
-    ghost from_gives = { λ _ fault. fault ≡ TooLarge Bits };
-
-    fn from(_: TooWide) -> Self {
-        RunFault::TooLarge(RunLimit::Bits)
     }
 }

@@ -2,15 +2,16 @@
 ghost use Rattle.std.specs.Prelude.{◌≡◌, ◌≢◌, ◌||◌, ◌&&◌, ℤ, Bool, true, not, int_le};
 ghost use Rattle.spx_core.specs.Commands.{head_of};
 ghost use Rattle.spx_term.specs.declared.value.Value.TheVariants.{Number};
-ghost use Rattle.spx_meaning.specs.Stores.{Store, is_in, type_of};
+ghost use Rattle.spx_meaning.specs.Stores.{Store, lies_in, type_of};
 ghost use Rattle.spx_meaning.specs.Runs.{Outcome, end_of, start_of, value_after, with_bounds};
 ghost use Rattle.spx_meaning.specs.Limits.{passes_after_bounds};
-ghost use Rattle.spx_interp.specs.Results.{IsWay, frame_of, on_bounds, test_of, truth_answered, where_bounds};
+ghost use Rattle.spx_interp.specs.Results.{IsWay, OnBounds, WhereBounds, frame_of, test_of, truth_answered};
 
 use crate::body::Body;
 use crate::evaluation::{eval, is_true};
+use crate::stop::Stop;
 use spx_core::{CoreCount, CoreScheme, Span, Subtype};
-use spx_meaning::{Bad, BadKind, Scalar, is_in, type_of};
+use spx_meaning::{Bad, BadKind, Scalar, lies_in, type_of};
 
 /// Whether a loop takes another turn, as far as its condition says. One without a condition does.
 pub(crate) fn goes_on(
@@ -18,7 +19,7 @@ pub(crate) fn goes_on(
     turns: u64,
     store: &[Option<Scalar>],
     scheme: &CoreScheme,
-) -> Result<bool, Bad>
+) -> Result<bool, Stop>
     ensures { truth_answered result (test_of (frame_of body.now) turns store.now (head_of scheme.now)) }
 {
     match scheme {
@@ -29,11 +30,11 @@ pub(crate) fn goes_on(
 
 /// Whether both bounds lie in the type, where there is a value between them.
 fn are_in_type(subtype: Subtype, bounds: Span) -> bool
-    ensures { result ≡ (not (int_le bounds.first bounds.last) || (is_in subtype (Number bounds.first) && is_in subtype (Number bounds.last))) }
+    ensures { result ≡ (not (int_le bounds.first bounds.last) || (lies_in subtype (Number bounds.first) && lies_in subtype (Number bounds.last))) }
 {
     bounds.first > bounds.last
-        || is_in(subtype, Scalar::number(bounds.first))
-            && is_in(subtype, Scalar::number(bounds.last))
+        || lies_in(subtype, Scalar::number(bounds.first))
+            && lies_in(subtype, Scalar::number(bounds.last))
 }
 
 /// The bounds of a loop that counts. Where none are written, they are the ends of the type.
@@ -42,9 +43,9 @@ pub(crate) fn bounds_of(
     turns: u64,
     store: &[Option<Scalar>],
     count: &CoreCount,
-) -> Result<Span, Bad>
-    ensures runs { (go : (low high : ℤ) → Store → Outcome) → with_bounds (frame_of body.now) turns store.now (type_of body.now.program.now count.now.parameter) count.now.bounds go ≡ on_bounds result store.now go }
-    ensures passes { (test : (low high : ℤ) → Store → Bool) → passes_after_bounds (frame_of body.now) turns store.now (type_of body.now.program.now count.now.parameter) count.now.bounds test ≡ where_bounds result store.now test }
+) -> Result<Span, Stop>
+    ensures runs { (go : (low high : ℤ) → Store → Outcome) → OnBounds result store.now go (with_bounds (frame_of body.now) turns store.now (type_of body.now.program.now count.now.parameter) count.now.bounds go) }
+    ensures passes { (test : (low high : ℤ) → Store → Bool) → WhereBounds result store.now test (passes_after_bounds (frame_of body.now) turns store.now (type_of body.now.program.now count.now.parameter) count.now.bounds test) }
 {
     let subtype = type_of(body.program, count.parameter);
     let Some(range) = &count.bounds else {
@@ -53,17 +54,17 @@ pub(crate) fn bounds_of(
             last: subtype.last,
         });
     };
-    let low = range.get().low.get();
+    let low = range.low.get();
     let first = eval(body, turns, store, low)?.as_number();
-    let last = eval(body, turns, store, range.get().high.get())?.as_number();
+    let last = eval(body, turns, store, range.high.get())?.as_number();
     let bounds = Span { first, last };
     if are_in_type(subtype, bounds) {
         Ok(bounds)
     } else {
-        Err(Bad {
+        Err(Stop::Failed(Bad {
             kind: BadKind::Range,
             place: low.place(),
-        })
+        }))
     }
 }
 

@@ -3,22 +3,22 @@ ghost use Rattle.std.specs.Prelude.{◌≡◌, ◌<◌, Some, length, map};
 ghost use Rattle.spx_text.specs.declared.place.Place.{Place};
 ghost use Rattle.spx_core.specs.Commands.{Counted, Repeat, Set, alternative, command, commands, exit_where, head_of, loop_of, select};
 ghost use Rattle.spx_meaning.specs.Runs.{assign, untrue};
-ghost use Rattle.spx_interp.specs.Results.{IsWay, arm_at, done, frame_of, looked_at, outcome_of, ran, ran_count};
+ghost use Rattle.spx_interp.specs.Results.{Done, IsWay, arm_at, frame_of, looked_at, outcome_of, ran, ran_count};
 ghost use Rattle.spx_interp.specs.Rooms.{AlternativesHaveRoom, ArmsHaveRoom, HasRoom, IsTested};
 
 use crate::annotation::truth;
 use crate::body::Body;
 use crate::choices::{alternative_for, first_arm};
 use crate::evaluation::{eval, is_true};
+use crate::fault::RunFault;
 use crate::heads::{bounds_of, goes_on, value_after, way_of};
 use crate::slots::{put, unset};
 use crate::step::Step;
 use spx_core::{
-    CoreAlternative, CoreArm, CoreCount, CoreExpr, CoreScheme, CoreStmt, Reference, Span, VarId,
+    CoreAlternative, CoreArm, CoreCount, CoreExpr, CoreScheme, CoreStmt, Span, Target, VarId,
     variable_of,
 };
-use spx_meaning::{Bad, BadKind, Scalar, is_in, type_of};
-use spx_num::TooWide;
+use spx_meaning::{Bad, BadKind, Scalar, lies_in, type_of};
 use spx_text::Place;
 use spx_tree::AssertionKind;
 use sqlite_items::Boxed;
@@ -34,7 +34,7 @@ fn assign(
     requires { var.0 < length store.old }
     ensures { assign body.now.program.now place (Some var) store.old value ≡ outcome_of result store.new }
 {
-    if is_in(type_of(body.program, var), value) {
+    if lies_in(type_of(body.program, var), value) {
         put(store, var, Some(value));
         Step::Ended
     } else {
@@ -45,24 +45,27 @@ fn assign(
     }
 }
 
-/// Runs an assignment. What is no variable takes no value.
+/// Runs an assignment. What is no variable takes no value. There is no memory yet for an assignment to a part.
 #[tactic(auto, using(crate::proofs::RunForms::run_forms))]
 fn run_assignment(
     body: &Body,
     turns: u64,
     store: &mut [Option<Scalar>],
-    target: &Reference,
+    target: &Target,
     expr: &CoreExpr,
-) -> Step
+) -> Result<Step, RunFault>
     requires { HasRoom (length store.old) (Set target.now expr.now) }
-    ensures { ran (frame_of body.now) turns store.old (Set target.now expr.now) ≡ Some (outcome_of result store.new) }
+    ensures { Done result store.new (ran (frame_of body.now) turns store.old (Set target.now expr.now)) }
 {
+    if !target.way.is_empty() {
+        return Err(RunFault::Memory);
+    }
     match eval(body, turns, store, expr) {
         Ok(value) => match variable_of(target.root.entity) {
-            Some(var) => assign(body, store, expr.place(), var, value),
-            None => Step::Ended,
+            Some(var) => Ok(assign(body, store, expr.place(), var, value)),
+            None => Ok(Step::Ended),
         },
-        Err(bad) => Step::Failed(bad),
+        Err(stop) => stop.step(),
     }
 }
 
@@ -74,13 +77,13 @@ pub(crate) fn look_at(
     kind: BadKind,
     place: Place,
     annotation: &CoreExpr,
-) -> Result<Step, TooWide>
-    ensures { looked_at (frame_of body.now) store.now kind place annotation.now ≡ done result store.now }
+) -> Result<Step, RunFault>
+    ensures { Done result store.now (looked_at (frame_of body.now) store.now kind place annotation.now) }
 {
     match truth(body, store, annotation) {
-        Some(true) => Ok(Step::Ended),
-        Some(false) => Ok(Step::Failed(Bad { kind, place })),
-        None => Err(TooWide),
+        Ok(true) => Ok(Step::Ended),
+        Ok(false) => Ok(Step::Failed(Bad { kind, place })),
+        Err(fault) => Err(fault),
     }
 }
 
@@ -101,16 +104,16 @@ fn run_exit(
     turns: u64,
     store: &[Option<Scalar>],
     condition: &Option<Boxed<CoreExpr>>,
-) -> Step
-    ensures { (place : Place) → ran (frame_of body.now) turns store.now (exit_where place condition.now) ≡ Some (outcome_of result store.now) }
+) -> Result<Step, RunFault>
+    ensures { (place : Place) → Done result store.now (ran (frame_of body.now) turns store.now (exit_where place condition.now)) }
 {
     let Some(condition) = condition else {
-        return Step::Left;
+        return Ok(Step::Left);
     };
     match is_true(body, turns, store, condition.get()) {
-        Ok(true) => Step::Left,
-        Ok(false) => Step::Ended,
-        Err(bad) => Step::Failed(bad),
+        Ok(true) => Ok(Step::Left),
+        Ok(false) => Ok(Step::Ended),
+        Err(stop) => stop.step(),
     }
 }
 
@@ -122,9 +125,9 @@ pub(crate) fn run_stmts(
     turns: u64,
     store: &mut [Option<Scalar>],
     stmts: &[CoreStmt],
-) -> Result<Step, TooWide>
+) -> Result<Step, RunFault>
     requires { HasRoom (length store.old) (commands stmts.now) }
-    ensures { ran (frame_of body.now) turns store.old (commands stmts.now) ≡ done result store.new }
+    ensures { Done result store.new (ran (frame_of body.now) turns store.old (commands stmts.now)) }
 {
     for stmt in stmts {
         let step = run_stmt(body, turns, store, stmt)?;
@@ -142,14 +145,14 @@ fn run_stmt(
     turns: u64,
     store: &mut [Option<Scalar>],
     stmt: &CoreStmt,
-) -> Result<Step, TooWide>
+) -> Result<Step, RunFault>
     requires { HasRoom (length store.old) (command stmt.now) }
-    ensures { ran (frame_of body.now) turns store.old (command stmt.now) ≡ done result store.new }
+    ensures { Done result store.new (ran (frame_of body.now) turns store.old (command stmt.now)) }
 {
     match stmt {
         CoreStmt::Null(_) => Ok(Step::Ended),
         CoreStmt::Assignment(target, expr) => {
-            Ok(run_assignment(body, turns, store, target.get(), expr.get()))
+            run_assignment(body, turns, store, target.get(), expr.get())
         }
         CoreStmt::If(arms, otherwise, _) => {
             match first_arm(body, turns, store, arms.get().as_slice()) {
@@ -160,7 +163,7 @@ fn run_stmt(
                         None => Ok(Step::Ended),
                     },
                 },
-                Err(bad) => Ok(Step::Failed(bad)),
+                Err(stop) => stop.step(),
             }
         }
         CoreStmt::Case(_, selector, alternatives, _) => {
@@ -173,7 +176,7 @@ fn run_stmt(
         CoreStmt::Assertion(kind, place, condition) => {
             look_at(body, store, untrue(*kind), *place, condition.get())
         }
-        CoreStmt::Exit(_, condition) => Ok(run_exit(body, turns, store, condition)),
+        CoreStmt::Exit(_, condition) => run_exit(body, turns, store, condition),
     }
 }
 
@@ -185,10 +188,10 @@ fn run_arm(
     store: &mut [Option<Scalar>],
     arms: &[CoreArm],
     k: usize,
-) -> Result<Step, TooWide>
+) -> Result<Step, RunFault>
     requires within { k < length arms.now }
     requires room { ArmsHaveRoom (length store.old) arms.now }
-    ensures { ran (frame_of body.now) turns store.old (arm_at arms.now k) ≡ done result store.new }
+    ensures { Done result store.new (ran (frame_of body.now) turns store.old (arm_at arms.now k)) }
 {
     run_stmts(body, turns, store, arms[k].body.get().as_slice())
 }
@@ -201,9 +204,9 @@ fn run_case(
     store: &mut [Option<Scalar>],
     alternatives: &[CoreAlternative],
     selector: &CoreExpr,
-) -> Result<Step, TooWide>
+) -> Result<Step, RunFault>
     requires { AlternativesHaveRoom (length store.old) alternatives.now }
-    ensures { (place : Place) → ran (frame_of body.now) turns store.old (select place selector.now (map alternative alternatives.now)) ≡ done result store.new }
+    ensures { (place : Place) → Done result store.new (ran (frame_of body.now) turns store.old (select place selector.now (map alternative alternatives.now))) }
 {
     if alternatives.is_empty() {
         return Ok(Step::Ended);
@@ -213,7 +216,7 @@ fn run_case(
             let k = alternative_for(alternatives, value);
             run_stmts(body, turns, store, alternatives[k].body.as_slice())
         }
-        Err(bad) => Ok(Step::Failed(bad)),
+        Err(stop) => stop.step(),
     }
 }
 
@@ -225,9 +228,9 @@ fn run_loop(
     store: &mut [Option<Scalar>],
     stmts: &[CoreStmt],
     scheme: &CoreScheme,
-) -> Result<Step, TooWide>
+) -> Result<Step, RunFault>
     requires { HasRoom (length store.old) (loop_of scheme.now (commands stmts.now)) }
-    ensures { ran (frame_of body.now) turns store.old (loop_of scheme.now (commands stmts.now)) ≡ done result store.new }
+    ensures { Done result store.new (ran (frame_of body.now) turns store.old (loop_of scheme.now (commands stmts.now))) }
 {
     match scheme {
         CoreScheme::While(_, _) => run_turns(body, turns, store, stmts, scheme),
@@ -245,17 +248,17 @@ fn run_turns(
     store: &mut [Option<Scalar>],
     stmts: &[CoreStmt],
     scheme: &CoreScheme,
-) -> Result<Step, TooWide>
+) -> Result<Step, RunFault>
     requires tested { IsTested (head_of scheme.now) }
     requires room { HasRoom (length store.old) (commands stmts.now) }
-    ensures { ran (frame_of body.now) turns store.old (loop_of scheme.now (commands stmts.now)) ≡ done result store.new }
+    ensures { Done result store.new (ran (frame_of body.now) turns store.old (loop_of scheme.now (commands stmts.now))) }
 {
     let mut left = turns;
     loop {
         match goes_on(body, left, store, scheme) {
             Ok(true) => {}
             Ok(false) => return Ok(Step::Ended),
-            Err(bad) => return Ok(Step::Failed(bad)),
+            Err(stop) => return stop.step(),
         }
         if left == 0 {
             return Ok(Step::Later);
@@ -277,13 +280,13 @@ fn run_for(
     store: &mut [Option<Scalar>],
     stmts: &[CoreStmt],
     count: &CoreCount,
-) -> Result<Step, TooWide>
+) -> Result<Step, RunFault>
     requires { HasRoom (length store.old) (Repeat (Counted count.now) (commands stmts.now)) }
-    ensures { ran (frame_of body.now) turns store.old (Repeat (Counted count.now) (commands stmts.now)) ≡ done result store.new }
+    ensures { Done result store.new (ran (frame_of body.now) turns store.old (Repeat (Counted count.now) (commands stmts.now))) }
 {
     let bounds = match bounds_of(body, turns, store, count) {
         Ok(bounds) => bounds,
-        Err(bad) => return Ok(Step::Failed(bad)),
+        Err(stop) => return stop.step(),
     };
     if bounds.first > bounds.last {
         unset(store, count.parameter);
@@ -306,10 +309,10 @@ fn run_count(
     stmts: &[CoreStmt],
     count: &CoreCount,
     way: Span,
-) -> Result<Step, TooWide>
+) -> Result<Step, RunFault>
     requires room { HasRoom (length store.old) (Repeat (Counted count.now) (commands stmts.now)) }
     requires way { IsWay count.now way.first way.last }
-    ensures { ran_count (frame_of body.now) count.now (commands stmts.now) way.last turns way.first store.old ≡ done result store.new }
+    ensures { Done result store.new (ran_count (frame_of body.now) count.now (commands stmts.now) way.last turns way.first store.old) }
 {
     let mut value = way.first;
     let mut left = turns;

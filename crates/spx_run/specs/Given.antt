@@ -4,7 +4,7 @@ use Rattle.std.specs.List.{list_any, cons_option}
 use Rattle.std.specs.Str.{str_eq_ignore_ascii_case}
 use Rattle.spx_text.specs.declared.place.Place.{Place}
 use Rattle.spx_core.specs.declared.entity.Class.{Class}
-use Rattle.spx_core.specs.declared.entity.Class.TheVariants.{Integer, Boolean, Enumeration}
+use Rattle.spx_core.specs.declared.entity.Class.TheVariants.{Integer, Boolean, Enumeration, Composite}
 use Rattle.spx_core.specs.declared.entity.Subtype.{Subtype}
 use Rattle.spx_core.specs.declared.entity.VarId.{VarId}
 use Rattle.spx_core.specs.declared.program.Program.{Program}
@@ -14,7 +14,7 @@ use Rattle.spx_core.specs.Dependency.{imports}
 use Rattle.spx_core.specs.Formals.{formals}
 use Rattle.spx_term.specs.declared.value.Value.{Value}
 use Rattle.spx_term.specs.declared.value.Value.TheVariants as value
-use Rattle.spx_meaning.specs.Stores.{Store, is_in, look, put, type_of}
+use Rattle.spx_meaning.specs.Stores.{Store, lies_in, look, put, type_of}
 use Rattle.spx_run.specs.declared.inputs.InputValue.{InputValue}
 use Rattle.spx_run.specs.declared.inputs.InputValue.TheVariants.{Number, Word}
 use Rattle.spx_run.specs.declared.inputs.InputLine.{InputLine}
@@ -50,17 +50,18 @@ same_var v w = v.0 == w.0
 
 -- ---- values
 
--- the value of a class that is written; a literal of an enumeration is that of no import yet, since no formal has such a type
+-- the value of a class that is written; a literal of an enumeration, and a value with parts, is that of no import yet, since no formal has such a type
 abbrev pub written : Class → InputValue → Option Value
 written Integer (Number n) = Some (value.Number n)
 written Integer (Word w) = None
 written Boolean (Number n) = None
 written Boolean (Word w) = if is_word w (codes "true") then Some (value.Truth true) else if is_word w (codes "false") then Some (value.Truth false) else None
 written Enumeration given = None
+written Composite given = None
 
 -- a value of the type, if this is one
 abbrev pub in_type : Subtype → Value → Option Value
-in_type subtype x = if is_in subtype x then Some x else None
+in_type subtype x = if lies_in subtype x then Some x else None
 
 -- the value that a line gives to an import of this type, if it is one of its values
 abbrev pub typed : Subtype → InputValue → Option Value

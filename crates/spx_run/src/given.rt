@@ -10,7 +10,7 @@ ghost use Rattle.spx_run.specs.Mirror.{AreImports, ImportsAreDeclared, truth_wri
 use crate::inputs::{InputLine, InputValue};
 use crate::result::InputFinding;
 use spx_core::{Class, Program, Sub, Subtype, VarId, VarSet};
-use spx_meaning::{Scalar, Store, is_in, type_of};
+use spx_meaning::{Scalar, Store, lies_in, type_of};
 use spx_text::{Place, Text};
 use sqlite_items::Items;
 use std::alloc::{AllocError, Global};
@@ -90,7 +90,7 @@ fn written(class: Class, value: &InputValue) -> Option<Scalar>
             InputValue::Number(_) => None,
             InputValue::Word(word) => truth_written(word.as_bytes()),
         },
-        Class::Enumeration => None,
+        Class::Enumeration | Class::Composite => None,
     }
 }
 
@@ -99,7 +99,7 @@ fn typed(subtype: Subtype, value: &InputValue) -> Option<Scalar>
     ensures { result ≡ spec.typed subtype value.now }
 {
     let value = written(subtype.base.class, value)?;
-    if is_in(subtype, value) {
+    if lies_in(subtype, value) {
         Some(value)
     } else {
         None

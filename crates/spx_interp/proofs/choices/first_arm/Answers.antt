@@ -2,7 +2,7 @@ use Rattle.std.proofs.Common.{◌∙◌, ◌+◌, drop, map, true, false}
 use Rattle.std.specs.Prelude.{if◌then◌else◌}
 use Rattle.spx_core.specs.Commands.{arm_before, arms_before}
 use Rattle.spx_interp.specs.Results.{arm_at, frame_of, ran}
-use Rattle.spx_interp.proofs.ChoiceLaws.{at_truth, ran_arms, where_failed, where_tested}
+use Rattle.spx_interp.proofs.ChoiceLaws.{arm_stopped, at_truth, ran_arms, where_tested}
 use Rattle.spx_interp.proofs.choices.first_arm.Goals as goal
 
 pub returns-in-Ok-true-clause-runs : goal.returns-in-Ok-true-clause-runs
@@ -18,9 +18,12 @@ returns-in-Ok-true-clause-runs c otherwise =
 
 pub returns-in-Err-clause-runs : goal.returns-in-Err-clause-runs
 returns-in-Err-clause-runs c otherwise =
-    c.loop-k.invariant otherwise
-    ∙ ran_arms (frame_of c.args.body.now) c.args.turns c.args.store.now otherwise c.args.arms.now c.loop-k.k c.index-arms-k.result c.loop-k-test.true
-    ∙ where_failed c.in-Err.bad _ _ (rw c.get.ensures at c.in-Err.ensures)
+    let f = frame_of c.args.body.now in
+    let n = c.args.turns in
+    let s = c.args.store.now in
+    let arms = c.args.arms.now in
+    let parts = c.loop-k.invariant otherwise ∙ ran_arms f n s otherwise arms c.loop-k.k c.index-arms-k.result c.loop-k-test.true in
+    rw parts (arm_stopped c.in-Err.stop _ _ (λ k. ran f n s (arm_at arms k)) (ran f n s otherwise) (rw c.get.ensures at c.in-Err.ensures))
 
 pub loop-k-preserved : goal.loop-k-preserved
 loop-k-preserved c otherwise =

@@ -1,4 +1,4 @@
-use Rattle.std.proofs.Common.{◌≡◌, ◌+◌, ◌-◌, ◌<◌, ℕ, true, false, List, length, drop, map, Some, None, Ok, sym, ap, ap₂, ◌∙◌, subst, arith, rules, to_z, of_z}
+use Rattle.std.proofs.Common.{◌≡◌, ◌+◌, ◌-◌, ◌<◌, ℕ, true, false, List, length, drop, map, Some, None, Ok, Err, refl, sym, ap, ap₂, ◌∙◌, subst, arith, rules, to_z, of_z}
 use Rattle.std.specs.Prelude.{IfSome, int_le, if◌then◌else◌}
 use Rattle.std.specs.Int.{w128}
 use Rattle.std.specs.Ordering.{int_eq}
@@ -6,6 +6,7 @@ use Rattle.std.proofs.lemmas.Bool.{eqb-true}
 use Rattle.std.proofs.Math.Facts.{of_z-to_z}
 use Rattle.std.proofs.lemmas.Int.{ints, to_z-of_z}
 use Rattle.std.proofs.lemmas.List.{drop_more}
+use Rattle.std.proofs.lemmas.Result.{err_from_is_err_and}
 use Rattle.spx_core.specs.declared.statement.CoreStmt.{the_lemmas}
 use Rattle.spx_core.specs.declared.statement.CoreArm.{CoreArm}
 use Rattle.spx_core.specs.declared.statement.CoreStmt.{CoreStmt}
@@ -14,7 +15,7 @@ use Rattle.spx_core.proofs.Callers.CommandForms.{command-Assertion, command-Case
 use Rattle.spx_term.specs.declared.value.Value.{Value}
 use Rattle.spx_meaning.specs.Runs.{Ended, value_after}
 use Rattle.spx_meaning.specs.Stores.{put}
-use Rattle.spx_interp.specs.Results.{arm_at, frame_of, looked_at, on_arm, outcome_of, ran, ran_count}
+use Rattle.spx_interp.specs.Results.{Done, OnArm, arm_at, frame_of, looked_at, outcome_of, ran, ran_count}
 use Rattle.spx_interp.specs.Rooms.{AlternativesHaveRoom, ArmsHaveRoom, HasRoom}
 use Rattle.spx_interp.proofs.RoomLaws.{room_of_alternatives, room_of_arms, room_of_if}
 use Rattle.spx_interp.proofs.RunForms.{on_ended, on_turn, ran-Assertion, ran-Skip}
@@ -57,10 +58,9 @@ run_stmts-returns-in_err-step t c =
     let stmts = c.args.stmts.now in
     let l = c.loop-stmt in
     let k = l.stmt-index in
-    l.invariant.1
-    ∙ ran_stmts f n l.store stmts k c.stmt-item.result c.loop-stmt-test.true c.stmt-item.is
-    ∙ ap (λ o. on_ended o (λ t. ran f n t (commands (drop (k + 1) stmts)))) c.in_err-step.ensures
-    ∙ sym (refused _ c.from_residual.result c.run_stmt.new.store c.from_residual.ensures.1)
+    let p = err_from_is_err_and c.from_residual.result c.from_residual.ensures.1 in
+    refused (λ o. on_ended o (λ t. ran f n t (commands (drop (k + 1) stmts)))) c.in_err-step.field-0.0 c.from_residual.result c.run_stmt.new.store c.run_stmt.new.store _ _ refl (p.1 ∙ ap Err p.2) c.in_err-step.ensures
+    (l.invariant.1 ∙ ran_stmts f n l.store stmts k c.stmt-item.result c.loop-stmt-test.true c.stmt-item.is)
 
 pub run_stmts-returns : goal.run_stmts-returns
 run_stmts-returns t c = let l = c.loop-stmt in l.invariant.1 ∙ ran_none (frame_of c.args.body.now) c.args.turns l.store c.args.stmts.now l.stmt-index c.loop-stmt-test.false
@@ -105,9 +105,9 @@ run_stmt-returns-in-None-otherwise t c =
     let f = frame_of c.args.body.now in
     let n = c.args.turns in
     let s = c.args.store.now in
+    let arms = c.as_slice.result.now in
     ap (ran f n s) (command-If c.args.stmt.now here.arms here.otherwise here.field-2 here.is c.in-None-otherwise.is ∙ ap (λ xs. arms_before Skip (map arm_before xs)) (sym (c.as_slice.ensures ∙ c.get-in-If.ensures)))
-    ∙ c.in-Ok.ensures.runs Skip
-    ∙ ap (λ found. on_arm (Ok found) (λ k. ran f n s (arm_at c.as_slice.result.now k)) (ran f n s Skip)) c.in-None.is
+    ∙ subst (λ found. OnArm (Ok found) (λ k. ran f n s (arm_at arms k)) (ran f n s Skip) (ran f n s (arms_before Skip (map arm_before arms)))) c.in-None.is (c.in-Ok.ensures.runs Skip)
     ∙ ran-Skip f n s
 
 pub run_stmt-returns-in-Assertion : goal.run_stmt-returns-in-Assertion
@@ -116,16 +116,19 @@ run_stmt-returns-in-Assertion t c =
     let f = frame_of c.args.body.now in
     let n = c.args.turns in
     let s = c.args.store.now in
-    ap (ran f n s) (ap command here.is ∙ command-Assertion here.kind here.place here.condition)
+    subst (Done c.look_at.result s)
+    (sym
+    (ap (ran f n s) (ap command here.is ∙ command-Assertion here.kind here.place here.condition)
     ∙ ran-Assertion f n s here.kind here.place here.condition
-    ∙ ap₂ (λ kind condition. looked_at f s kind here.place condition) (sym c.untrue.ensures) (sym c.get-in-Assertion.ensures)
-    ∙ c.look_at.ensures
+    ∙ ap₂ (λ kind condition. looked_at f s kind here.place condition) (sym c.untrue.ensures) (sym c.get-in-Assertion.ensures)))
+    c.look_at.ensures
 
 pub run_arm-returns : goal.run_arm-returns
 run_arm-returns t c =
     let f = frame_of c.args.body.now in
     let s = c.args.store.now in
-    ap (ran f c.args.turns s) (arm_at_is c.args.arms.now c.args.k c.index-arms-k.result c.requires.within ∙ ap commands (sym (c.as_slice.ensures ∙ c.get.ensures))) ∙ c.run_stmts.ensures
+    subst (Done c.run_stmts.result c.run_stmts.new.store)
+    (sym (ap (ran f c.args.turns s) (arm_at_is c.args.arms.now c.args.k c.index-arms-k.result c.requires.within ∙ ap commands (sym (c.as_slice.ensures ∙ c.get.ensures))))) c.run_stmts.ensures
 
 pub run_case-returns-then-is_empty : goal.run_case-returns-then-is_empty
 run_case-returns-then-is_empty t c place =
@@ -139,32 +142,39 @@ run_case-returns-in-Ok t c place =
     let s = c.args.store.now in
     let alternatives = c.args.alternatives.now in
     let k = c.alternative_for-k.result in
-    ran_selected f n s place c.args.selector.now alternatives (omega (arith, c.alternative_for-k.ensures.within)) c.in-Ok.value (sym c.in-Ok.ensures)
+    subst (Done c.run_stmts.result c.run_stmts.new.store)
+    (sym
+    (ran_selected f n s place c.args.selector.now alternatives (omega (arith, c.alternative_for-k.ensures.within)) c.in-Ok.value (sym c.in-Ok.ensures)
     ∙ c.alternative_for-k.ensures.runs f n s
-    ∙ ap (ran f n s) (alternative_at_is alternatives k c.index-alternatives-k.result c.alternative_for-k.ensures.within ∙ ap commands (sym c.as_slice.ensures)) ∙ c.run_stmts.ensures
+    ∙ ap (ran f n s) (alternative_at_is alternatives k c.index-alternatives-k.result c.alternative_for-k.ensures.within ∙ ap commands (sym c.as_slice.ensures))))
+    c.run_stmts.ensures
 
 pub run_case-returns-in-Err : goal.run_case-returns-in-Err
 run_case-returns-in-Err t c place =
     let some = more_than_none (length c.args.alternatives.now) (sym c.is_empty.ensures ∙ c.if-is_empty.false) in
-    ran_unevaluated (frame_of c.args.body.now) c.args.turns c.args.store.now place c.args.selector.now c.args.alternatives.now some c.in-Err.bad (sym c.in-Err.ensures)
+    let f = frame_of c.args.body.now in
+    let n = c.args.turns in
+    let s = c.args.store.now in
+    rw c.step.ensures (ran_unevaluated f n s place c.args.selector.now c.args.alternatives.now some c.in-Err.stop s c.in-Err.ensures)
 
 -- ---- loops that do not count
 
 pub run_turns-returns-in-Ok-false : goal.run_turns-returns-in-Ok-false
 run_turns-returns-in-Ok-false t c =
-    let l = c.loop-bad in
+    let l = c.loop-stop in
     l.invariant.1
     ∙ loop_ends (frame_of c.args.body.now) (head_of c.args.scheme.now) (commands c.args.stmts.now) c.requires.tested l.left l.store
     (at_truth false c.in-Ok-false.field-0 _ c.in-Ok-false.field-0-test c.in-Ok-false.ensures)
 
 pub run_turns-returns-in-Err : goal.run_turns-returns-in-Err
 run_turns-returns-in-Err t c =
-    let l = c.loop-bad in
-    l.invariant.1 ∙ loop_fails (frame_of c.args.body.now) (head_of c.args.scheme.now) (commands c.args.stmts.now) c.requires.tested l.left l.store c.in-Err.bad c.in-Err.ensures
+    let l = c.loop-stop in
+    rw (c.step.ensures, l.invariant.1)
+    (loop_fails (frame_of c.args.body.now) (head_of c.args.scheme.now) (commands c.args.stmts.now) c.requires.tested l.left l.store c.in-Err.stop l.store c.in-Err.ensures)
 
 pub run_turns-returns-then-left-eq0 : goal.run_turns-returns-then-left-eq0
 run_turns-returns-then-left-eq0 t c =
-    let l = c.loop-bad in
+    let l = c.loop-stop in
     l.invariant.1
     ∙ loop_waits (frame_of c.args.body.now) (head_of c.args.scheme.now) (commands c.args.stmts.now) c.requires.tested l.left l.store c.if-left-eq0.true
     (at_truth true c.in-Ok-true.field-0 _ c.in-Ok-true.field-0-test c.in-Ok-true.ensures)
@@ -174,18 +184,17 @@ run_turns-returns-in_err-step t c =
     let f = frame_of c.args.body.now in
     let head = head_of c.args.scheme.now in
     let body = commands c.args.stmts.now in
-    let l = c.loop-bad in
-    l.invariant.1
-    ∙ loop_turns f head body c.requires.tested l.left (l.left - 1) l.store (omega arith) (at_truth true c.in-Ok-true.field-0 _ c.in-Ok-true.field-0-test c.in-Ok-true.ensures)
-    ∙ ap (λ o. on_turn o (λ t. ran f (l.left - 1) t (Repeat head body))) c.in_err-step.ensures
-    ∙ sym (refused _ c.from_residual.result c.run_stmts.new.store c.from_residual.ensures.1)
+    let l = c.loop-stop in
+    let p = err_from_is_err_and c.from_residual.result c.from_residual.ensures.1 in
+    refused (λ o. on_turn o (λ t. ran f (l.left - 1) t (Repeat head body))) c.in_err-step.field-0.0 c.from_residual.result c.run_stmts.new.store c.run_stmts.new.store _ _ refl (p.1 ∙ ap Err p.2) c.in_err-step.ensures
+    (l.invariant.1 ∙ loop_turns f head body c.requires.tested l.left (l.left - 1) l.store (omega arith) (at_truth true c.in-Ok-true.field-0 _ c.in-Ok-true.field-0-test c.in-Ok-true.ensures))
 
-pub run_turns-loop-bad-preserved : goal.run_turns-loop-bad-preserved
-run_turns-loop-bad-preserved t c =
+pub run_turns-loop-stop-preserved : goal.run_turns-loop-stop-preserved
+run_turns-loop-stop-preserved t c =
     let f = frame_of c.args.body.now in
     let head = head_of c.args.scheme.now in
     let body = commands c.args.stmts.now in
-    let l = c.loop-bad in (
+    let l = c.loop-stop in (
       subst (λ (size : ℕ). HasRoom size body) (sym c.run_stmts.auto.store) l.invariant.0,
       l.invariant.1
           ∙ loop_turns f head body c.requires.tested l.left (l.left - 1) l.store (omega arith) (at_truth true c.in-Ok-true.field-0 _ c.in-Ok-true.field-0-test c.in-Ok-true.ensures)
@@ -197,7 +206,7 @@ run_turns-returns-then-not-has_ended t c =
     let f = frame_of c.args.body.now in
     let head = head_of c.args.scheme.now in
     let body = commands c.args.stmts.now in
-    let l = c.loop-bad in
+    let l = c.loop-stop in
     let s = c.run_stmts.new.store in
     l.invariant.1
     ∙ loop_turns f head body c.requires.tested l.left (l.left - 1) l.store (omega arith) (at_truth true c.in-Ok-true.field-0 _ c.in-Ok-true.field-0-test c.in-Ok-true.ensures)
@@ -207,7 +216,9 @@ run_turns-returns-then-not-has_ended t c =
 -- ---- loops that count
 
 pub run_for-returns-in-Err : goal.run_for-returns-in-Err
-run_for-returns-in-Err t c = count_fails (frame_of c.args.body.now) c.args.count.now (commands c.args.stmts.now) c.args.turns c.args.store.now c.in-Err.bad (c.in-Err.ensures.runs, c.in-Err.ensures.passes)
+run_for-returns-in-Err t c =
+    let s = c.args.store.now in
+    rw c.step.ensures (count_fails (frame_of c.args.body.now) c.args.count.now (commands c.args.stmts.now) c.args.turns s c.in-Err.stop s (c.in-Err.ensures.runs, c.in-Err.ensures.passes))
 
 pub run_for-returns-then-bounds : goal.run_for-returns-then-bounds
 run_for-returns-then-bounds t c =
@@ -223,9 +234,9 @@ run_for-returns-in_err-step t c =
     let low : to_z w128 (of_z w128 c.in-Ok.bounds.first) ≡ c.in-Ok.bounds.first = search (rules, to_z-of_z) in
     let high : to_z w128 (of_z w128 c.in-Ok.bounds.last) ≡ c.in-Ok.bounds.last = search (rules, to_z-of_z) in
     let some = at_most c.in-Ok.bounds.first c.in-Ok.bounds.last (rw (low, high) at c.if-bounds.false) in
-    count_some f count body c.args.turns c.args.store.now c.in-Ok.bounds (c.in-Ok.ensures.runs, c.in-Ok.ensures.passes) some c.way_of.result c.way_of.ensures.first c.way_of.ensures.last
-    ∙ ap (λ o. on_ended o (λ t. Some (Ended (put t count.parameter None)))) c.in_err-step.ensures
-    ∙ sym (refused _ c.from_residual.result c.run_count.new.store c.from_residual.ensures.1)
+    let p = err_from_is_err_and c.from_residual.result c.from_residual.ensures.1 in
+    refused (λ o. on_ended o (λ t. Some (Ended (put t count.parameter None)))) c.in_err-step.field-0.0 c.from_residual.result c.run_count.new.store c.run_count.new.store _ _ refl (p.1 ∙ ap Err p.2) c.in_err-step.ensures
+    (count_some f count body c.args.turns c.args.store.now c.in-Ok.bounds (c.in-Ok.ensures.runs, c.in-Ok.ensures.passes) some c.way_of.result c.way_of.ensures.first c.way_of.ensures.last)
 
 pub run_for-returns-then-has_ended : goal.run_for-returns-then-has_ended
 run_for-returns-then-has_ended t c =
@@ -300,10 +311,9 @@ run_count-returns-in_err-step t c =
     let left = l.left - 1 in
     let k = to_z w128 l.value-bits in
     let end = c.args.way.last in
-    l.invariant.1
-    ∙ count_turns f count body end l.left left k l.store c.put.new.slots (omega arith) (c.put.ensures ∙ ap (λ (x : Value). put l.store count.parameter (Some x)) c.number.ensures)
-    ∙ ap (λ o. on_turn o (after_value f count body end left k)) c.in_err-step.ensures
-    ∙ sym (refused _ c.from_residual.result c.run_stmts.new.store c.from_residual.ensures.1)
+    let p = err_from_is_err_and c.from_residual.result c.from_residual.ensures.1 in
+    refused (λ o. on_turn o (after_value f count body end left k)) c.in_err-step.field-0.0 c.from_residual.result c.run_stmts.new.store c.run_stmts.new.store _ _ refl (p.1 ∙ ap Err p.2) c.in_err-step.ensures
+    (l.invariant.1 ∙ count_turns f count body end l.left left k l.store c.put.new.slots (omega arith) (c.put.ensures ∙ ap (λ (x : Value). put l.store count.parameter (Some x)) c.number.ensures))
 
 pub run_count-returns-then-not-has_ended : goal.run_count-returns-then-not-has_ended
 run_count-returns-then-not-has_ended t c =

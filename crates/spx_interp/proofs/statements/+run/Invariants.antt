@@ -10,13 +10,13 @@ invariant-run_stmts-loop-stmt l =
     × (ran (frame_of l.body) l.turns l.initial.store (commands l.stmts) ≡ ran (frame_of l.body) l.turns l.store (commands (drop l.stmt-index l.stmts)))
 
 -- the whole loop from the store before it is what is left of it from here
-abbrev pub invariant-run_turns-loop-bad : goal.invariant-run_turns-loop-bad
-invariant-run_turns-loop-bad l =
+abbrev pub invariant-run_turns-loop-stop : goal.invariant-run_turns-loop-stop
+invariant-run_turns-loop-stop l =
     HasRoom (length l.store) (commands l.stmts)
     × (ran (frame_of l.body) l.turns l.initial.store (loop_of l.scheme (commands l.stmts)) ≡ ran (frame_of l.body) l.left l.store (loop_of l.scheme (commands l.stmts)))
 
-abbrev pub decreases-run_turns-loop-bad : goal.decreases-run_turns-loop-bad
-decreases-run_turns-loop-bad l = l.left
+abbrev pub decreases-run_turns-loop-stop : goal.decreases-run_turns-loop-stop
+decreases-run_turns-loop-stop l = l.left
 
 abbrev pub invariant-run_count-loop-left : goal.invariant-run_count-loop-left
 invariant-run_count-loop-left l =
