@@ -12,6 +12,8 @@ use Rattle.spx_core.specs.declared.name.CoreName.{CoreName}
 use Rattle.spx_core.specs.declared.part.Indexing.{Indexing}
 use Rattle.spx_core.specs.declared.part.PartStep.TheVariants.{Index}
 use Rattle.spx_core.specs.declared.part.Target.{Target}
+use Rattle.spx_core.specs.declared.program.Program.{Program}
+use Rattle.spx_core.specs.declared.program.TypeForm.TheVariants.{Array}
 use Rattle.spx_core.specs.Commands.{Command, Set}
 use Rattle.spx_term.specs.declared.term.ArrayType.{ArrayType}
 use Rattle.spx_term.specs.declared.term.Component.TheVariants as component
@@ -20,6 +22,7 @@ use Rattle.spx_term.specs.declared.value.Value.TheVariants as value
 use Rattle.spx_term.specs.Parts.{Step, indexed, selected}
 use Rattle.spx_meaning.specs.Stores.{Store}
 use Rattle.spx_examples.specs.CompositeExamples.{digit, field_g}
+use Rattle.spx_examples.specs.Declarations.{local, program_of, row}
 use Rattle.spx_examples.specs.Increment.{place, word}
 
 -- ---- types
@@ -63,9 +66,13 @@ a_at column = local_at (codes "A") a array_type column
 
 -- ---- expressions and statements
 
+-- the element of an array of that type at an index
+abbrev pub element_at : CoreName → CoreExpr → CoreExpr
+element_at prefix at = Element (Name prefix) (place 6 6) at indexing
+
 -- `A (I)`
 abbrev pub element_of_a : CoreExpr
-element_of_a = Element (Name (a_at 4)) (place 6 6) (Name (i_at 7)) indexing
+element_of_a = element_at (a_at 4) (Name (i_at 7))
 
 -- the same as a target
 abbrev pub to_element : Target
@@ -74,6 +81,13 @@ to_element = record { root = a_at 4; way = Index (place 6 6) (Name (i_at 7)) ind
 -- `A (I) := E`
 abbrev pub setting : Command
 setting = Set to_element (Name (e_at 13))
+
+-- the program of these types and variables
+abbrev pub part_program : Program
+part_program =
+    program_of
+    (row (codes "Index") index_type ∷ record { name = codes "T"; subtype = array_type; form = Array index_type INTEGER } ∷ [])
+    (local (codes "I") INTEGER ∷ local (codes "E") INTEGER ∷ local (codes "A") array_type ∷ [])
 
 -- ---- values
 
