@@ -1,5 +1,5 @@
 -- Elements of arrays in programs: their values, checks and reads.
-use Rattle.std.proofs.Common.{◌≡◌, ℕ, ℤ, pos, true, false, ◌&&◌, List, [], ◌∷◌, ◌++◌, Some, None, Ok, refl, ap, ap₂, ◌∙◌}
+use Rattle.std.proofs.Common.{◌≡◌, ℕ, zero, suc, ℤ, pos, true, false, ◌&&◌, List, [], ◌∷◌, ◌++◌, Option, Some, None, Ok, refl, ap, ap₂, subst, ◌∙◌, arith}
 use Rattle.std.specs.List.{filter_map}
 use denote.Hole.Carrier.{hidden}
 use Rattle.spx_text.specs.declared.place.Place.{Place}
@@ -10,11 +10,13 @@ use Rattle.spx_core.specs.declared.expression.CoreExpr.TheBlock.{hidden-the_row-
 use Rattle.spx_core.specs.declared.expression.CoreExpr.TheVariants.{Name, Number}
 use Rattle.spx_core.specs.declared.name.CoreName.{CoreName}
 use Rattle.spx_core.specs.declared.program.Program.{Program}
+use Rattle.spx_core.specs.declared.program.TypeRow.{TypeRow}
 use Rattle.spx_core.specs.declared.rule.ExprType.TheVariants.{Universal}
 use Rattle.spx_core.specs.declared.rule.Typing.{Typing}
 use Rattle.spx_core.specs.declared.subprogram.Sub.{Sub}
 use Rattle.spx_core.specs.Effects.{assign, effect, read_of}
 use Rattle.spx_core.specs.Judged.{Judged, ◌>>=◌, element, expr_step, judged, named_value, typing}
+use Rattle.spx_core.specs.Parts.{IsMade, TypesAreMade}
 use Rattle.spx_core.specs.Places.{place_in, place_of}
 use Rattle.spx_core.specs.Reads.{names_step}
 use Rattle.spx_core.proofs.Callers.Expressions.{fold-Element, fold-Name, fold-Number}
@@ -28,17 +30,17 @@ use Rattle.spx_term.specs.declared.value.Shape.{Shape, Shape-F, map-Shape, fold_
 use Rattle.spx_term.specs.declared.value.Shape.TheVariants as shape
 use Rattle.spx_term.specs.declared.value.Value.{Value, Value-F}
 use Rattle.spx_term.specs.declared.value.Value.TheVariants as value
-use Rattle.spx_term.specs.Meaning.{as_number, value_of_binary}
+use Rattle.spx_term.specs.Meaning.{as_number, value_of_binary, value_of_unary}
 use Rattle.spx_term.specs.Parts.{part_of, with_end, with_part, indexed, selected}
 use Rattle.spx_term.specs.Steps.{Tree, Assign, Assume, check}
 use Rattle.spx_term.specs.Tables.{types_in}
-use Rattle.spx_term.specs.Values.{Types, element_at, element_in, elements_pass, first_of, first_step, first_value as first_in_shape, is_in as is_in_shape, number_passes, with_elements, with_elements_in, with_field, with_field_in, within}
+use Rattle.spx_term.specs.Values.{Types, element_at, element_in, elements_pass, field_at, field_in, first_of, first_step, first_value as first_in_shape, is_in as is_in_shape, number_passes, with_elements, with_elements_in, with_field, with_field_in, within}
 use Rattle.spx_term.proofs.ValueLaws.{is_in-layer}
 use Rattle.spx_meaning.specs.Annotations.{meant, meant_step, named_meaning}
 use Rattle.spx_meaning.specs.declared.bad.BadKind.TheVariants as bad
-use Rattle.spx_meaning.specs.Evaluation.{Answer, Fails, Gives, eval, eval-Element, in_index, in_part, read, with_value}
+use Rattle.spx_meaning.specs.Evaluation.{Answer, Fails, Gives, eval, eval-Element, eval-Selected, in_index, in_part, read, with_value}
 use Rattle.spx_meaning.specs.Frames.{Frame, around}
-use Rattle.spx_meaning.specs.Parts.{element_step, element_value}
+use Rattle.spx_meaning.specs.Parts.{element_step, element_value, field_step, field_value}
 use Rattle.spx_meaning.specs.Runs.{Bad, Ended, Outcome, run, use_value}
 use Rattle.spx_meaning.specs.Stores.{Store, component_of, is_in, put, types_of}
 use Rattle.spx_formula.specs.Goals.{in_range}
@@ -47,7 +49,7 @@ use Rattle.spx_paths.specs.Checks.{checks, checks-Name}
 use Rattle.spx_paths.specs.Walks.{set_tree, walk}
 use Rattle.spx_examples.specs.CompositeExamples.{types, digit, digits_of, field_g, numbers_of}
 use Rattle.spx_examples.specs.Increment.{place}
-use Rattle.spx_examples.specs.PartPrograms.{a, a_at, array_type, e, e_at, element_of_a, i, i_at, indexing, number, pairs, pairs_of, part_program, setting, to_element, to_second_g, values}
+use Rattle.spx_examples.specs.PartPrograms.{a, a_at, array_type, e, e_at, element_of_a, endless_program, field_of_r, i, i_at, indexing, number, pairs, pairs_of, part_program, r_at, selection, setting, setting_field, to_element, to_second_g, values}
 use Rattle.spx_examples.specs.PartPrograms as in_program
 use Rattle.spx_examples.proofs.Computing.{checks_are}
 use Rattle.spx_examples.proofs.Declarations.{term_of_name}
@@ -129,9 +131,9 @@ second_in : part_of types (indexed pairs (pos 2)) (pairs_of (digits_of 1 2) (dig
 unfolding value_of_binary element_at items
 second_in = ap (element_in (first_of types (component.Composite 1)) (pos 2)) (value.outs-Elements (pos 1) items)
 
-put_g : with_part (selected field_g digit) (digits_of 3 4) (value.Number (pos 5)) ≡ digits_of 3 5
+put_g : (k m n : ℕ) → with_part (selected field_g digit) (digits_of k m) (value.Number (pos n)) ≡ digits_of k n
 unfolding with_field
-put_g = ap (with_field_in 1 (value.Number (pos 5)) (digits_of 3 4)) (value.outs-Fields (value.Number (pos 3) ∷ value.Number (pos 4) ∷ []))
+put_g k m n = ap (with_field_in 1 (value.Number (pos n)) (digits_of k m)) (value.outs-Fields (value.Number (pos k) ∷ value.Number (pos m) ∷ []))
 
 put_second_pair : with_part (indexed pairs (pos 2)) (pairs_of (digits_of 1 2) (digits_of 3 4)) (digits_of 3 5) ≡ pairs_of (digits_of 1 2) (digits_of 3 5)
 unfolding with_elements items
@@ -140,7 +142,7 @@ put_second_pair = ap (with_elements_in (pos 2) (pos 2) (digits_of 3 5) (pairs_of
 pub field_changes : with_end types to_second_g (pairs_of (digits_of 1 2) (digits_of 3 4)) (value.Number (pos 5)) ≡ pairs_of (digits_of 1 2) (digits_of 3 5)
 field_changes =
     ap (λ u. with_part (indexed pairs (pos 2)) (pairs_of (digits_of 1 2) (digits_of 3 4)) (with_part (selected field_g digit) u (value.Number (pos 5)))) second_in
-    ∙ ap (with_part (indexed pairs (pos 2)) (pairs_of (digits_of 1 2) (digits_of 3 4))) put_g
+    ∙ ap (with_part (indexed pairs (pos 2)) (pairs_of (digits_of 1 2) (digits_of 3 4))) (put_g 3 4 5)
     ∙ put_second_pair
 
 -- ---- the steps of the assignment
@@ -252,3 +254,57 @@ meant_unset sub entry =
     ∙ ap (λ x. element_value (types_of part_program) indexing x (value.Number (pos 2))) first_array
     ∙ there (types_of part_program) (first ∷ first ∷ first ∷ []) 2
     ∙ first_integer
+
+-- ---- `R.G` and `R.G := E`
+
+eval_field : (f : Frame) (n : ℕ) (s : Store) → eval f n s field_of_r ≡ with_value (read s (place 6 4) (Some a)) (λ u. Gives (field_value (types_of f.program) selection u))
+eval_field f n s = eval-Selected f n s (Name (r_at 4)) _ selection ∙ ap (λ of_r. with_value of_r (λ u. Gives (field_value (types_of f.program) selection u))) (eval_name f n s (r_at 4))
+
+pub field_is : (f : Frame) (n : ℕ) → eval f n (values None None (Some (digits_of 3 4))) field_of_r ≡ Gives (value.Number (pos 4))
+unfolding value_of_unary field_at
+field_is f n =
+    eval_field f n (values None None (Some (digits_of 3 4)))
+    ∙ ap (λ out. Gives (field_in (first_of (types_of f.program) (component_of INTEGER)) 1 out)) (value.outs-Fields (value.Number (pos 3) ∷ value.Number (pos 4) ∷ []))
+
+pub no_field : (f : Frame) (n : ℕ) → eval f n (values None None None) field_of_r ≡ Fails bad.Unset (place 6 4)
+no_field f n = eval_field f n (values None None None)
+
+-- what becomes of the assignment, where E is read as this and stands there
+abbrev setting_field_from : Frame → Store → Place → Answer → Outcome
+setting_field_from f s at_e of_e =
+    use_value
+    (with_value of_e (λ x.
+    in_part INTEGER at_e x
+    (with_value (read s (place 6 4) (Some a)) (λ old. Gives (with_end (types_of f.program) (field_step selection ∷ []) old x)))))
+    (λ x. Ended (put s a (Some x)))
+
+set_field_is : (f : Frame) (n : ℕ) (s : Store) → run f n s setting_field ≡ setting_field_from f s (place 6 11) (read s (place 6 11) (Some e))
+set_field_is f n s =
+    ap (setting_field_from f s _) (eval_name f n s (e_at 11)) ∙ ap (λ at_e. setting_field_from f s at_e (read s (place 6 11) (Some e))) (fold-Name place_in (e_at 11))
+
+pub field_set : (f : Frame) (n : ℕ) → run f n (values None (number 7) (Some (digits_of 3 4))) setting_field ≡ Ended (values None (number 7) (Some (digits_of 3 7)))
+field_set f n = set_field_is f n (values None (number 7) (Some (digits_of 3 4))) ∙ ap (λ x. Ended (values None (number 7) (Some x))) (put_g 3 4 7)
+
+pub field_unset : (f : Frame) (n : ℕ) → run f n (values None (number 7) None) setting_field ≡ Bad bad.Unset (place 6 4)
+field_unset f n = set_field_is f n (values None (number 7) None)
+
+pub field_effect : effect setting_field ≡ assign (Some a) ((place 6 11, e) ∷ (place 6 4, a) ∷ []) (place 6 4)
+field_effect = ap (λ (right : List CoreName). assign (Some a) (filter_map read_of (right ++ r_at 4 ∷ [])) (place 6 4)) (fold-Name names_step (e_at 11))
+
+-- ---- the types in their order
+
+row_made : (k : ℕ) (one other : TypeRow) → ◌≡◌ {A = Option TypeRow} (Some one) (Some other) → IsMade part_program k one one.form → IsMade part_program k other other.form
+row_made k one other is h = subst (λ (row : TypeRow). IsMade part_program k row row.form) (let same : one ≡ other = cc in same) h
+
+pub types_made : TypesAreMade part_program
+types_made zero row is = row_made 0 _ row is refl
+types_made (suc zero) row is = row_made 1 _ row is tt
+types_made (suc (suc zero)) row is = row_made 2 _ row is refl
+types_made (suc (suc (suc zero))) row is = row_made 3 _ row is refl
+types_made (suc (suc (suc (suc zero)))) row is = row_made 4 _ row is refl
+types_made (suc (suc (suc (suc (suc zero))))) row is = row_made 5 _ row is refl
+types_made (suc (suc (suc (suc (suc (suc zero)))))) row is = row_made 6 _ row is (refl, refl, refl)
+types_made (suc (suc (suc (suc (suc (suc (suc k))))))) row is = absurd (cc)
+
+pub not_made : ¬ TypesAreMade endless_program
+not_made made = let earlier = (made 6 _ refl).2 in absurd (omega (arith, earlier.before))

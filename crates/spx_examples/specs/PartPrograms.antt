@@ -7,10 +7,11 @@ use Rattle.spx_core.specs.declared.entity.Subtype.{Subtype}
 use Rattle.spx_core.specs.declared.entity.VarId.{VarId}
 use Rattle.spx_core.specs.declared.entity.VarKind.TheVariants.{Local}
 use Rattle.spx_core.specs.declared.expression.CoreExpr.{CoreExpr}
-use Rattle.spx_core.specs.declared.expression.CoreExpr.TheVariants.{Name, Element}
+use Rattle.spx_core.specs.declared.expression.CoreExpr.TheVariants.{Name, Element, Selected}
 use Rattle.spx_core.specs.declared.name.CoreName.{CoreName}
 use Rattle.spx_core.specs.declared.part.Indexing.{Indexing}
-use Rattle.spx_core.specs.declared.part.PartStep.TheVariants.{Index}
+use Rattle.spx_core.specs.declared.part.PartStep.TheVariants.{Index, Field}
+use Rattle.spx_core.specs.declared.part.Selection.{Selection}
 use Rattle.spx_core.specs.declared.part.Target.{Target}
 use Rattle.spx_core.specs.declared.program.Program.{Program}
 use Rattle.spx_core.specs.declared.program.TypeForm.TheVariants.{Array}
@@ -89,13 +90,39 @@ part_program =
     (row (codes "Index") index_type ∷ record { name = codes "T"; subtype = array_type; form = Array index_type INTEGER } ∷ [])
     (local (codes "I") INTEGER ∷ local (codes "E") INTEGER ∷ local (codes "A") array_type ∷ [])
 
+-- a program where each element of an array of that type is such an array itself
+abbrev pub endless_program : Program
+endless_program = program_of (row (codes "Index") index_type ∷ record { name = codes "T"; subtype = array_type; form = Array index_type array_type } ∷ []) []
+
+-- ---- a field of a record
+
+-- a record type, whose field G has an integer
+abbrev pub record_type : Subtype
+record_type = record array_type { id = record { 0 = 7 }; base = record array_type.base { id = record { 0 = 7 } } }
+
+-- what stands with its name
+abbrev pub selection : Selection
+selection = record { «record» = record_type.id; position = 1; field = INTEGER }
+
+-- `R`, which is such a record
+abbrev pub r_at : ℕ → CoreName
+r_at column = local_at (codes "R") a record_type column
+
+-- `R.G`
+abbrev pub field_of_r : CoreExpr
+field_of_r = Selected (Name (r_at 4)) (word (codes "G") 6 6) selection
+
+-- `R.G := E`
+abbrev pub setting_field : Command
+setting_field = Set (record { root = r_at 4; way = Field (word (codes "G") 6 6) selection ∷ []; rest = [] }) (Name (e_at 11))
+
 -- ---- values
 
 -- the number, as the value of a variable
 abbrev pub number : ℕ → Option Value
 number n = Some (value.Number (pos n))
 
--- the values of I, E and A
+-- the values of I and E, and of A or R
 abbrev pub values : (of_i of_e of_a : Option Value) → Store
 values of_i of_e of_a = of_i ∷ of_e ∷ of_a ∷ []
 

@@ -9,6 +9,7 @@ ghost use Rattle.spx_core.specs.declared.rule.RuleName.TheVariants.{N10, N12};
 ghost use Rattle.spx_core.specs.declared.subprogram.Sub.{Sub};
 ghost use Rattle.spx_core.specs.Effects.{assign, effect};
 ghost use Rattle.spx_core.specs.Judged.{judged, typing};
+ghost use Rattle.spx_core.specs.Parts.{IsAsFormed, TypesAreMade, an_element};
 ghost use Rattle.spx_term.specs.declared.condition.CondKind.TheVariants as kind;
 ghost use Rattle.spx_term.specs.declared.term.Term.{Term};
 ghost use Rattle.spx_term.specs.declared.term.Term.TheVariants as term;
@@ -32,7 +33,7 @@ ghost use Rattle.spx_paths.specs.Walks.{walk};
 ghost use Rattle.spx_examples.specs.CompositeExamples.{types, digits_of, numbers_of};
 ghost use Rattle.spx_examples.specs.Increment.{place};
 ghost use Rattle.spx_examples.specs.Operators.{true_at};
-ghost use Rattle.spx_examples.specs.PartPrograms.{a, a_at, array_type, e, element_at, element_of_a, i, i_at, number, pairs_of, part_program, setting, to_second_g, values};
+ghost use Rattle.spx_examples.specs.PartPrograms.{a, a_at, array_type, e, element_at, element_of_a, endless_program, field_of_r, i, i_at, indexing, number, pairs_of, part_program, setting, setting_field, to_second_g, values};
 
 /// An index below or above its subtype fails at the index, and that it lies between the bounds is the only check of `A (I)`.
 pub fn an_index_lies_in_its_subtype()
@@ -103,4 +104,20 @@ pub fn an_annotation_gives_each_element_a_value()
     ensures set { (f : Frame) → meant f (values (number 2) None (Some (numbers_of 4 5 6))) element_of_a ≡ value.Number (pos 5) }
     ensures out_of_range { (f : Frame) → meant f (values (number 4) None (Some (numbers_of 4 5 6))) element_of_a ≡ value.Number INTEGER_FIRST }
     ensures unset { (sub : Sub) (entry : Store) → meant (around part_program sub entry) (values (number 2) None None) element_of_a ≡ value.Number INTEGER_FIRST }
+{}
+
+/// `R.G := E` puts the value of E at the field, and leaves the other field. A record that is unset is read there, and in `R.G`.
+pub fn an_assignment_sets_one_field()
+    ensures value { (f : Frame) (n : ℕ) → eval f n (values None None (Some (digits_of 3 4))) field_of_r ≡ Gives (value.Number (pos 4)) }
+    ensures no_value { (f : Frame) (n : ℕ) → eval f n (values None None None) field_of_r ≡ Fails Unset (place 6 4) }
+    ensures set { (f : Frame) (n : ℕ) → run f n (values None (number 7) (Some (digits_of 3 4))) setting_field ≡ Ended (values None (number 7) (Some (digits_of 3 7))) }
+    ensures unset { (f : Frame) (n : ℕ) → run f n (values None (number 7) None) setting_field ≡ Bad Unset (place 6 4) }
+    ensures reads { effect setting_field ≡ assign (Some a) ((place 6 11, e) ∷ (place 6 4, a) ∷ []) (place 6 4) }
+{}
+
+/// The types of that program are made of those that are declared before them. An array type whose elements are its own arrays is not.
+pub fn types_of_programs_are_made_in_their_order()
+    ensures made { TypesAreMade part_program }
+    ensures formed { IsAsFormed part_program (an_element indexing) }
+    ensures not_made { ¬ TypesAreMade endless_program }
 {}
