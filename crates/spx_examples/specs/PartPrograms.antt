@@ -7,11 +7,14 @@ use Rattle.spx_core.specs.declared.entity.Subtype.{Subtype}
 use Rattle.spx_core.specs.declared.entity.VarId.{VarId}
 use Rattle.spx_core.specs.declared.entity.VarKind.TheVariants.{Local}
 use Rattle.spx_core.specs.declared.expression.CoreExpr.{CoreExpr}
-use Rattle.spx_core.specs.declared.expression.CoreExpr.TheVariants.{Name, Element}
+use Rattle.spx_core.specs.declared.expression.CoreExpr.TheVariants.{Name, Element, Selected}
 use Rattle.spx_core.specs.declared.name.CoreName.{CoreName}
 use Rattle.spx_core.specs.declared.part.Indexing.{Indexing}
-use Rattle.spx_core.specs.declared.part.PartStep.TheVariants.{Index}
+use Rattle.spx_core.specs.declared.part.PartStep.TheVariants.{Index, Field}
+use Rattle.spx_core.specs.declared.part.Selection.{Selection}
 use Rattle.spx_core.specs.declared.part.Target.{Target}
+use Rattle.spx_core.specs.declared.program.Program.{Program}
+use Rattle.spx_core.specs.declared.program.TypeForm.TheVariants.{Array}
 use Rattle.spx_core.specs.Commands.{Command, Set}
 use Rattle.spx_term.specs.declared.term.ArrayType.{ArrayType}
 use Rattle.spx_term.specs.declared.term.Component.TheVariants as component
@@ -20,6 +23,7 @@ use Rattle.spx_term.specs.declared.value.Value.TheVariants as value
 use Rattle.spx_term.specs.Parts.{Step, indexed, selected}
 use Rattle.spx_meaning.specs.Stores.{Store}
 use Rattle.spx_examples.specs.CompositeExamples.{digit, field_g}
+use Rattle.spx_examples.specs.Declarations.{local, program_of, row}
 use Rattle.spx_examples.specs.Increment.{place, word}
 
 -- ---- types
@@ -63,9 +67,13 @@ a_at column = local_at (codes "A") a array_type column
 
 -- ---- expressions and statements
 
+-- the element of an array of that type at an index
+abbrev pub element_at : CoreName → CoreExpr → CoreExpr
+element_at prefix at = Element (Name prefix) (place 6 6) at indexing
+
 -- `A (I)`
 abbrev pub element_of_a : CoreExpr
-element_of_a = Element (Name (a_at 4)) (place 6 6) (Name (i_at 7)) indexing
+element_of_a = element_at (a_at 4) (Name (i_at 7))
 
 -- the same as a target
 abbrev pub to_element : Target
@@ -75,13 +83,46 @@ to_element = record { root = a_at 4; way = Index (place 6 6) (Name (i_at 7)) ind
 abbrev pub setting : Command
 setting = Set to_element (Name (e_at 13))
 
+-- the program of these types and variables
+abbrev pub part_program : Program
+part_program =
+    program_of
+    (row (codes "Index") index_type ∷ record { name = codes "T"; subtype = array_type; form = Array index_type INTEGER } ∷ [])
+    (local (codes "I") INTEGER ∷ local (codes "E") INTEGER ∷ local (codes "A") array_type ∷ [])
+
+-- a program where each element of an array of that type is such an array itself
+abbrev pub endless_program : Program
+endless_program = program_of (row (codes "Index") index_type ∷ record { name = codes "T"; subtype = array_type; form = Array index_type array_type } ∷ []) []
+
+-- ---- a field of a record
+
+-- a record type, whose field G has an integer
+abbrev pub record_type : Subtype
+record_type = record array_type { id = record { 0 = 7 }; base = record array_type.base { id = record { 0 = 7 } } }
+
+-- what stands with its name
+abbrev pub selection : Selection
+selection = record { «record» = record_type.id; position = 1; field = INTEGER }
+
+-- `R`, which is such a record
+abbrev pub r_at : ℕ → CoreName
+r_at column = local_at (codes "R") a record_type column
+
+-- `R.G`
+abbrev pub field_of_r : CoreExpr
+field_of_r = Selected (Name (r_at 4)) (word (codes "G") 6 6) selection
+
+-- `R.G := E`
+abbrev pub setting_field : Command
+setting_field = Set (record { root = r_at 4; way = Field (word (codes "G") 6 6) selection ∷ []; rest = [] }) (Name (e_at 11))
+
 -- ---- values
 
 -- the number, as the value of a variable
 abbrev pub number : ℕ → Option Value
 number n = Some (value.Number (pos n))
 
--- the values of I, E and A
+-- the values of I and E, and of A or R
 abbrev pub values : (of_i of_e of_a : Option Value) → Store
 values of_i of_e of_a = of_i ∷ of_e ∷ of_a ∷ []
 

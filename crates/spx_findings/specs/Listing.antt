@@ -22,11 +22,15 @@ use Rattle.spx_report.specs.Report.{spot_text}
 abbrev pub declared_names : Program → List (List ℕ)
 declared_names p = map (λ (var : Var). var.name) p.vars
 
+-- the names of fields
+abbrev pub names_of : List Field → List (List ℕ)
+names_of fields = map (λ (field : Field). field.name) fields
+
 -- the names of the fields of a type, which only a record type has
 abbrev pub field_names : TypeForm → List (List ℕ)
 field_names Scalar = []
 field_names (Array index element) = []
-field_names (Record fields) = map (λ (field : Field). field.name) fields
+field_names (Record fields) = names_of fields
 
 -- the names of a type and of its fields
 abbrev pub type_names : TypeRow → TypeNames

@@ -1,6 +1,5 @@
 // The text of the verification conditions of a program.
 ghost use Rattle.std.specs.Prelude.{◌≡◌, ◌++◌, ◌<◌, Some, None, length, map, slice_get, IfErr, IfOk, OnOk};
-ghost use Rattle.spx_core.specs.declared.program.Field as spec_field;
 ghost use Rattle.spx_core.specs.declared.subprogram.Sub.{Sub};
 ghost use Rattle.spx_text.specs.Loads.{names};
 ghost use Rattle.spx_findings.specs.Findings.{first_limit, limit_at, limit_of};
@@ -30,7 +29,7 @@ fn declared_names(alloc: Global, program: &Program) -> Result<Items<Text>, Alloc
 
 /// The names of the fields.
 fn names_of(alloc: Global, fields: &[Field]) -> Result<Items<Text>, AllocError>
-    ensures { IfOk result (λ names. names ≡ map (λ (field : spec_field.Field). field.name) fields.now) }
+    ensures { IfOk result (λ names. names ≡ spec.names_of fields.now) }
 {
     let mut names = Items::new(alloc);
     for field in fields {
