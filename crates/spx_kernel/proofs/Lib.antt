@@ -7,3 +7,4 @@ pub mod DivisionLaws
 pub mod ElementLaws
 pub mod AllSteps
 pub mod Layers
+pub mod ChangeLaws

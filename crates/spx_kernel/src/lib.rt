@@ -4,7 +4,10 @@
 //! (`step_is_valid`).
 #![tactic(auto)]
 
+mod change;
 mod fault;
+mod logic;
+mod quantifier;
 mod laws;
 mod rule;
 
