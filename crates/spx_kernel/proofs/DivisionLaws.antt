@@ -209,7 +209,7 @@ module _ (types : Types) (v : Valuation) (a b : Term) (number : IsNumber (value_
 
 -- ---- the step
 
-from_integers : (r p q s : Sort) → integers r p q ≡ Some s → (p ≡ Integer) × (q ≡ Integer)
+pub from_integers : (r p q s : Sort) → integers r p q ≡ Some s → (p ≡ Integer) × (q ≡ Integer)
 from_integers r Integer Integer s h = (refl, refl)
 from_integers r _ _ s h = absurd (cc)
 

@@ -29,6 +29,7 @@ use Rattle.spx_kernel.specs.Steps.{in_range, elem_at}
 use Rattle.spx_kernel.proofs.StepLaws.{leads_refused, leads_ok, valid, goal_of, goal_with}
 use Rattle.spx_kernel.proofs.QuantifierSteps.{between}
 use Rattle.spx_kernel.specs.Elements.{Reading, Spot, Search, within, first, updated_in, read_here, in_order, ternary_spot, search_step, spot_of}
+use Rattle.spx_kernel.proofs.SortLaws.{sort_prefix, sort_infix, sort_unary, sort_binary, sort_ternary}
 use Rattle.spx_kernel.proofs.QuantifierLaws.{alike_prefix, alike_infix, alike_unary, alike_binary, alike_update}
 
 -- `A[i => e][j]`, with the type of the update
@@ -39,11 +40,12 @@ reading_term r id = Binary (binary.Element r.array) (Ternary (ternary.Update id)
 abbrev pub HasSome : Types → Term → Type 0
 HasSome types t = (m : Sort) × (sort_of types t ≡ Some m)
 
--- a spot of a term: the term is what is around the reading, and equal values there are equal values of the whole
+-- a spot of a term: the term is what is around the reading, and equal values and sorts there are equal ones of the whole
 pub record IsSpot (types : Types) (t : Term) (spot : Spot) : Type 0 where
   pub id : ℕ
   pub whole : spot.around (Binary (binary.Element spot.reading.array) (Ternary (ternary.Update id) spot.reading.of spot.reading.index spot.reading.item) spot.reading.at) ≡ t
   pub keeps : (v : Valuation) (x y : Term) → value_of types v x ≡ value_of types v y → value_of types v (spot.around x) ≡ value_of types v (spot.around y)
+  pub sorts : (x y : Term) → sort_of types x ≡ sort_of types y → sort_of types (spot.around x) ≡ sort_of types (spot.around y)
   pub sorted : (m : Sort) → sort_of types t ≡ Some m → HasSome types (Binary (binary.Element spot.reading.array) (Ternary (ternary.Update id) spot.reading.of spot.reading.index spot.reading.item) spot.reading.at)
 
 module _ (types : Types) where
@@ -56,12 +58,13 @@ module _ (types : Types) where
   none_spots : (t : Term) → Spots t None
   none_spots t spot h = absurd (cc)
 
-  within_spots : (t u : Term) (f : Term → Term) (o : Option Spot) → Spots t o → f t ≡ u → ((v : Valuation) (x y : Term) → value_of types v x ≡ value_of types v y → value_of types v (f x) ≡ value_of types v (f y)) → ((m : Sort) → sort_of types u ≡ Some m → HasSome types t) → Spots u (within f o)
-  within_spots t u f (Some s) spots is keeps sorted spot h =
+  within_spots : (t u : Term) (f : Term → Term) (o : Option Spot) → Spots t o → f t ≡ u → ((v : Valuation) (x y : Term) → value_of types v x ≡ value_of types v y → value_of types v (f x) ≡ value_of types v (f y))
+      → ((x y : Term) → sort_of types x ≡ sort_of types y → sort_of types (f x) ≡ sort_of types (f y)) → ((m : Sort) → sort_of types u ≡ Some m → HasSome types t) → Spots u (within f o)
+  within_spots t u f (Some s) spots is keeps sorts sorted spot h =
       let inner = spots s refl in
       subst (IsSpot types u) (some_is (record { reading = s.reading; around = λ x. f (s.around x) }) spot h)
-      (record { id = inner.id; whole = ap f inner.whole ∙ is; keeps = λ v x y e. keeps v (s.around x) (s.around y) (inner.keeps v x y e); sorted = λ m g. let part = sorted m g in inner.sorted part.0 part.1 })
-  within_spots t u f None spots is keeps sorted spot h = absurd (cc)
+      (record { id = inner.id; whole = ap f inner.whole ∙ is; keeps = λ v x y e. keeps v (s.around x) (s.around y) (inner.keeps v x y e); sorts = λ x y e. sorts (s.around x) (s.around y) (inner.sorts x y e); sorted = λ m g. let part = sorted m g in inner.sorted part.0 part.1 })
+  within_spots t u f None spots is keeps sorts sorted spot h = absurd (cc)
 
   first_spots : (t : Term) (o p : Option Spot) → Spots t o → Spots t p → Spots t (first o p)
   first_spots t (Some s) p f g = f
@@ -76,7 +79,7 @@ module _ (types : Types) where
   updated_spots : (array : ArrayType) (a j : Term) (layer : Term-F Term) → roll-Term layer ≡ a → Spots (Binary (binary.Element array) a j) (updated_in array j layer)
   updated_spots array a j (Term-F.Ternary (ternary.Update id) b i e) is spot h =
       subst (IsSpot types (Binary (binary.Element array) a j)) (some_is (record { reading = record { array = array; of = b; index = i; item = e; at = j }; around = λ t. t }) spot h)
-      (record { id = id; whole = ap (λ x. Binary (binary.Element array) x j) (sym (rolls-Ternary (ternary.Update id) b i e) ∙ is); keeps = λ v x y same. same; sorted = λ m g. (m, ap (sort_of types) (ap (λ x. Binary (binary.Element array) x j) (sym (rolls-Ternary (ternary.Update id) b i e) ∙ is)) ∙ g) })
+      (record { id = id; whole = ap (λ x. Binary (binary.Element array) x j) (sym (rolls-Ternary (ternary.Update id) b i e) ∙ is); keeps = λ v x y same. same; sorts = λ x y same. same; sorted = λ m g. (m, ap (sort_of types) (ap (λ x. Binary (binary.Element array) x j) (sym (rolls-Ternary (ternary.Update id) b i e) ∙ is)) ∙ g) })
   updated_spots array a j _ is spot h = absurd (cc)
 
   here_spots : (o : BinaryOp) (a j : Term) → Spots (Binary o a j) (read_here o a j)
@@ -115,10 +118,10 @@ module _ (types : Types) where
       let y = (search b).whole in
       let z = (search c).whole in
       first_spots (Ternary o a b c) (within (λ u. Ternary o u y z) (search a).spot) (first (within (λ u. Ternary o x u z) (search b).spot) (within (λ u. Ternary o x y u) (search c).spot))
-      (within_spots a (Ternary o a b c) (λ u. Ternary o u y z) (search a).spot p.spots (λ i. Ternary o a (q.whole i) (r.whole i)) (λ v l m e. alike_update types v v t l y z m y z e refl refl) (first_part o a b c))
+      (within_spots a (Ternary o a b c) (λ u. Ternary o u y z) (search a).spot p.spots (λ i. Ternary o a (q.whole i) (r.whole i)) (λ v l m e. alike_update types v v t l y z m y z e refl refl) (λ l m e. sort_ternary types o o l y z m y z refl e refl refl) (first_part o a b c))
       (first_spots (Ternary o a b c) (within (λ u. Ternary o x u z) (search b).spot) (within (λ u. Ternary o x y u) (search c).spot)
-      (within_spots b (Ternary o a b c) (λ u. Ternary o x u z) (search b).spot q.spots (λ i. Ternary o (p.whole i) b (r.whole i)) (λ v l m e. alike_update types v v t x l z x m z refl e refl) (second_part o a b c))
-      (within_spots c (Ternary o a b c) (λ u. Ternary o x y u) (search c).spot r.spots (λ i. Ternary o (p.whole i) (q.whole i) c) (λ v l m e. alike_update types v v t x y l x y m refl refl e) (third_part o a b c)))
+      (within_spots b (Ternary o a b c) (λ u. Ternary o x u z) (search b).spot q.spots (λ i. Ternary o (p.whole i) b (r.whole i)) (λ v l m e. alike_update types v v t x l z x m z refl e refl) (λ l m e. sort_ternary types o o x l z x m z refl refl e refl) (second_part o a b c))
+      (within_spots c (Ternary o a b c) (λ u. Ternary o x y u) (search c).spot r.spots (λ i. Ternary o (p.whole i) (q.whole i) c) (λ v l m e. alike_update types v v t x y l x y m refl refl e) (λ l m e. sort_ternary types o o x y l x y m refl refl refl e) (third_part o a b c)))
   ternary_spots (ternary.Quantified f d) a b c p q r = none_spots _
 
   known_cases : Cases Known
@@ -128,24 +131,24 @@ module _ (types : Types) where
     variable = λ x. to (Variable x) _ (fold-Variable search_step x) (record { whole = refl; spots = none_spots _ });
     blank = λ id. to (Blank id) _ (fold-Blank search_step id) (record { whole = refl; spots = none_spots _ });
     prefix = λ o a p. to (Prefix o a) _ (fold-Prefix search_step o a)
-        (record { whole = ap (Prefix o) p.whole; spots = within_spots a (Prefix o a) (Prefix o) (search a).spot p.spots refl (λ v x y e. alike_prefix types v v o x y e) (λ m g. let one = one_sort (sort_of_prefix o) (sort_of types a) m (sym (fold-Prefix (sort_step types) o a) ∙ g) in (one.only, one.only_is)) });
+        (record { whole = ap (Prefix o) p.whole; spots = within_spots a (Prefix o a) (Prefix o) (search a).spot p.spots refl (λ v x y e. alike_prefix types v v o x y e) (λ x y e. sort_prefix types o x y e) (λ m g. let one = one_sort (sort_of_prefix o) (sort_of types a) m (sym (fold-Prefix (sort_step types) o a) ∙ g) in (one.only, one.only_is)) });
     «infix» = λ o a b p q. to (Infix o a b) _ (fold-Infix search_step o a b)
         (record {
           whole = λ i. Infix o (p.whole i) (q.whole i);
           spots = first_spots (Infix o a b) (within (λ x. Infix o x (search b).whole) (search a).spot) (within (Infix o (search a).whole) (search b).spot)
-              (within_spots a (Infix o a b) (λ x. Infix o x (search b).whole) (search a).spot p.spots (ap (Infix o a) q.whole) (λ v x y e. alike_infix types v v o x (search b).whole y (search b).whole e refl) (λ m g. let both = two_sorts (sort_of_op o) (sort_of types a) (sort_of types b) m (sym (fold-Infix (sort_step types) o a b) ∙ g) in (both.first, both.first_is)))
-              (within_spots b (Infix o a b) (Infix o (search a).whole) (search b).spot q.spots (ap (λ x. Infix o x b) p.whole) (λ v x y e. alike_infix types v v o (search a).whole x (search a).whole y refl e) (λ m g. let both = two_sorts (sort_of_op o) (sort_of types a) (sort_of types b) m (sym (fold-Infix (sort_step types) o a b) ∙ g) in (both.second, both.second_is)));
+              (within_spots a (Infix o a b) (λ x. Infix o x (search b).whole) (search a).spot p.spots (ap (Infix o a) q.whole) (λ v x y e. alike_infix types v v o x (search b).whole y (search b).whole e refl) (λ x y e. sort_infix types o x (search b).whole y (search b).whole e refl) (λ m g. let both = two_sorts (sort_of_op o) (sort_of types a) (sort_of types b) m (sym (fold-Infix (sort_step types) o a b) ∙ g) in (both.first, both.first_is)))
+              (within_spots b (Infix o a b) (Infix o (search a).whole) (search b).spot q.spots (ap (λ x. Infix o x b) p.whole) (λ v x y e. alike_infix types v v o (search a).whole x (search a).whole y refl e) (λ x y e. sort_infix types o (search a).whole x (search a).whole y refl e) (λ m g. let both = two_sorts (sort_of_op o) (sort_of types a) (sort_of types b) m (sym (fold-Infix (sort_step types) o a b) ∙ g) in (both.second, both.second_is)));
         });
     unary = λ o a p. to (Unary o a) _ (fold-Unary search_step o a)
-        (record { whole = ap (Unary o) p.whole; spots = within_spots a (Unary o a) (Unary o) (search a).spot p.spots refl (λ v x y e. alike_unary types v v o x y e) (λ m g. let one = one_sort (sort_of_unary types o) (sort_of types a) m (sym (fold-Unary (sort_step types) o a) ∙ g) in (one.only, one.only_is)) });
+        (record { whole = ap (Unary o) p.whole; spots = within_spots a (Unary o a) (Unary o) (search a).spot p.spots refl (λ v x y e. alike_unary types v v o x y e) (λ x y e. sort_unary types o x y e) (λ m g. let one = one_sort (sort_of_unary types o) (sort_of types a) m (sym (fold-Unary (sort_step types) o a) ∙ g) in (one.only, one.only_is)) });
     binary = λ o a b p q. to (Binary o a b) _ (fold-Binary search_step o a b)
         (record {
           whole = λ i. Binary o (p.whole i) (q.whole i);
           spots = first_spots (Binary o a b) (read_here o (search a).whole (search b).whole) (in_order o (within (λ x. Binary o x (search b).whole) (search a).spot) (within (Binary o (search a).whole) (search b).spot))
               (subst (λ t. Spots t (read_here o (search a).whole (search b).whole)) (λ i. Binary o (p.whole i) (q.whole i)) (here_spots o (search a).whole (search b).whole))
               (ordered_spots (Binary o a b) o (within (λ x. Binary o x (search b).whole) (search a).spot) (within (Binary o (search a).whole) (search b).spot)
-              (within_spots a (Binary o a b) (λ x. Binary o x (search b).whole) (search a).spot p.spots (ap (Binary o a) q.whole) (λ v x y e. alike_binary types v v o x (search b).whole y (search b).whole e refl) (λ m g. let both = two_sorts (sort_of_binary types o) (sort_of types a) (sort_of types b) m (sym (fold-Binary (sort_step types) o a b) ∙ g) in (both.first, both.first_is)))
-              (within_spots b (Binary o a b) (Binary o (search a).whole) (search b).spot q.spots (ap (λ x. Binary o x b) p.whole) (λ v x y e. alike_binary types v v o (search a).whole x (search a).whole y refl e) (λ m g. let both = two_sorts (sort_of_binary types o) (sort_of types a) (sort_of types b) m (sym (fold-Binary (sort_step types) o a b) ∙ g) in (both.second, both.second_is))));
+              (within_spots a (Binary o a b) (λ x. Binary o x (search b).whole) (search a).spot p.spots (ap (Binary o a) q.whole) (λ v x y e. alike_binary types v v o x (search b).whole y (search b).whole e refl) (λ x y e. sort_binary types o x (search b).whole y (search b).whole e refl) (λ m g. let both = two_sorts (sort_of_binary types o) (sort_of types a) (sort_of types b) m (sym (fold-Binary (sort_step types) o a b) ∙ g) in (both.first, both.first_is)))
+              (within_spots b (Binary o a b) (Binary o (search a).whole) (search b).spot q.spots (ap (λ x. Binary o x b) p.whole) (λ v x y e. alike_binary types v v o (search a).whole x (search a).whole y refl e) (λ x y e. sort_binary types o (search a).whole x (search a).whole y refl e) (λ m g. let both = two_sorts (sort_of_binary types o) (sort_of types a) (sort_of types b) m (sym (fold-Binary (sort_step types) o a b) ∙ g) in (both.second, both.second_is))));
         });
     ternary = λ o a b c p q r. to (Ternary o a b c) _ (fold-Ternary search_step o a b c)
         (record { whole = λ i. Ternary o (p.whole i) (q.whole i) (r.whole i); spots = ternary_spots o a b c p q r });

@@ -114,13 +114,13 @@ number_is _ h = absurd h
 
 -- ---- a quantifier that stands alone
 
-record Parts (d : BoundVariable) (low high body : Term) : Type 0 where
-  depth : d.depth ≡ 1
-  low_scoped : stands_alone low ≡ true
-  high_scoped : stands_alone high ≡ true
-  body_scoped : is_scoped (d ∷ []) body ≡ true
+pub record Parts (d : BoundVariable) (low high body : Term) : Type 0 where
+  pub depth : d.depth ≡ 1
+  pub low_scoped : stands_alone low ≡ true
+  pub high_scoped : stands_alone high ≡ true
+  pub body_scoped : is_scoped (d ∷ []) body ≡ true
 
-scoped_parts : (q : Quantifier) (d : BoundVariable) (low high body : Term) → stands_alone (Ternary (ternary.Quantified q d) low high body) ≡ true → Parts d low high body
+pub scoped_parts : (q : Quantifier) (d : BoundVariable) (low high body : Term) → stands_alone (Ternary (ternary.Quantified q d) low high body) ≡ true → Parts d low high body
 unfolding is_scoped
 scoped_parts q d low high body h =
     let all = sym (at_scope [] _ _ (fold-Ternary scoped_step (ternary.Quantified q d) low high body)) ∙ h in

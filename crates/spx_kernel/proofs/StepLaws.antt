@@ -154,7 +154,7 @@ apart _ y p q h P f g = absurd p
 number_sort : (types : Types) (x : Value) (s : Sort) → s ≡ Integer → HasSort types s x → IsNumber x
 number_sort types x s e h = subst (λ s. HasSort types s x) e h
 
-alike_sort : (o : TermOp) → sort_of_op o ≡ sort_of_op op.Equal → (m n s : Sort) → sort_of_op o m n ≡ Some s → m ≡ Integer → n ≡ Integer
+pub alike_sort : (o : TermOp) → sort_of_op o ≡ sort_of_op op.Equal → (m n s : Sort) → sort_of_op o m n ≡ Some s → m ≡ Integer → n ≡ Integer
 unfolding sort_of_op
 alike_sort o same m n s h e = equal_sort m n s (ap (λ (f : Sort → Sort → Option Sort). f m n) (sym same) ∙ h) e where
   equal_sort : (m n s : Sort) → sort_of_op op.Equal m n ≡ Some s → m ≡ Integer → n ≡ Integer
@@ -162,7 +162,7 @@ alike_sort o same m n s h e = equal_sort m n s (ap (λ (f : Sort → Sort → Op
   equal_sort Integer _ s h e = absurd (cc)
   equal_sort _ n s h e = absurd (cc)
 
-not_equal_alike : sort_of_op op.NotEqual ≡ sort_of_op op.Equal
+pub not_equal_alike : sort_of_op op.NotEqual ≡ sort_of_op op.Equal
 unfolding sort_of_op
 not_equal_alike = refl
 

@@ -1,7 +1,7 @@
 //! The steps of a proof.
 //!
 //! A layer above may rely on this: where the sequents that `step` gives are valid, so is the one that it was given
-//! (`step_is_valid`).
+//! (`step_is_valid`), and where that one is of Boolean terms, so are they (`step_keeps_sorts`).
 #![tactic(auto)]
 
 mod change;
@@ -12,5 +12,5 @@ mod laws;
 mod rule;
 
 pub use fault::StepFault;
-pub use laws::step_is_valid;
+pub use laws::{step_is_valid, step_keeps_sorts};
 pub use rule::{Entry, Rule, RuleOf};
