@@ -8,10 +8,11 @@ ghost use Rattle.spx_term.specs.declared.term.Term.TheVariants as term;
 ghost use Rattle.spx_kernel.specs.Changes.{Leaves, change_goal, change_hyp};
 ghost use Rattle.spx_kernel.specs.Steps.{cases_in, cases_infix, intro_in, intro_infix, intro_prefix, pick_in, pick_infix, split_in, split_infix, use_in, use_infix, use_prefix};
 
-use crate::change::{Change, Changes, goal, hyp, two_hyps};
+use crate::change::{Change, Changes, boxed_copy, goal, hyp, two_hyps};
 use crate::quantifier::{intro_ternary, use_ternary};
 use crate::StepFault;
-use spx_term::{Sequent, Term, TermOp, TermPrefix, is_numeric};
+use spx_term::{Sequent, Term, TermOp, TermPrefix, boxed_infix, is_numeric};
+use sqlite_items::Boxed;
 use std::alloc::{AllocError, Global};
 
 /// An operation on copies of two terms.
@@ -20,16 +21,21 @@ pub(crate) fn operation(
     op: TermOp,
     left: &Term,
     right: &Term,
-) -> Result<Term, AllocError>
+) -> Result<Boxed<Term>, AllocError>
     ensures { IfOk result (λ t. t ≡ term.Infix op left.now right.now) }
 {
-    let left = left.copy(alloc)?;
-    let right = right.copy(alloc)?;
-    Term::infix(alloc, op, left, right)
+    let left = boxed_copy(alloc, left)?;
+    let right = boxed_copy(alloc, right)?;
+    boxed_infix(alloc, op, left, right)
 }
 
 /// An operation as the goal.
-fn goal_of(alloc: Global, op: TermOp, left: &Term, right: &Term) -> Result<Change, AllocError>
+pub(crate) fn goal_of(
+    alloc: Global,
+    op: TermOp,
+    left: &Term,
+    right: &Term,
+) -> Result<Change, AllocError>
     ensures { IfOk result (λ c. c ≡ change_goal (term.Infix op left.now right.now)) }
 {
     let operation = operation(alloc, op, left, right)?;
@@ -40,7 +46,7 @@ fn goal_of(alloc: Global, op: TermOp, left: &Term, right: &Term) -> Result<Chang
 pub(crate) fn goal_copied(alloc: Global, copied: &Term) -> Result<Change, AllocError>
     ensures { IfOk result (λ c. c ≡ change_goal copied.now) }
 {
-    let copy = copied.copy(alloc)?;
+    let copy = boxed_copy(alloc, copied)?;
     Ok(goal(alloc, copy))
 }
 
@@ -56,7 +62,7 @@ fn hyp_of(alloc: Global, op: TermOp, left: &Term, right: &Term) -> Result<Change
 pub(crate) fn hyp_copied(alloc: Global, copied: &Term) -> Result<Change, AllocError>
     ensures { IfOk result (λ c. c ≡ change_hyp copied.now) }
 {
-    let copy = copied.copy(alloc)?;
+    let copy = boxed_copy(alloc, copied)?;
     hyp(alloc, copy)
 }
 
@@ -146,12 +152,10 @@ pub(crate) fn split(alloc: Global, sequent: &Sequent) -> Result<Changes, StepFau
 fn with_left(alloc: Global, left: &Term, right: &Term) -> Result<Changes, AllocError>
     ensures { IfOk result (λ cs. cs ≡ changes.One (record { hyps = left.now ∷ []; goal = Some right.now })) }
 {
-    let change = hyp_copied(alloc, left)?;
-    let goal = right.copy(alloc)?;
-    Ok(Changes::One(Change {
-        hyps: change.hyps,
-        goal: Some(goal),
-    }))
+    let goal = boxed_copy(alloc, right)?;
+    let Change { hyps, goal: _ } = hyp_copied(alloc, left)?;
+    let goal = Some(goal);
+    Ok(Changes::One(Change { hyps, goal }))
 }
 
 /// The step `intro` on a goal that is an operation.
@@ -321,8 +325,8 @@ pub(crate) fn cases(alloc: Global, hyp: &Term) -> Result<Changes, StepFault>
 fn both_hyps(alloc: Global, left: &Term, right: &Term) -> Result<Changes, AllocError>
     ensures { IfOk result (λ cs. cs ≡ changes.One (record { hyps = left.now ∷ right.now ∷ []; goal = None })) }
 {
-    let left = left.copy(alloc)?;
-    let right = right.copy(alloc)?;
+    let left = boxed_copy(alloc, left)?;
+    let right = boxed_copy(alloc, right)?;
     let hyps = two_hyps(alloc, left, right)?;
     Ok(Changes::One(Change { hyps, goal: None }))
 }
