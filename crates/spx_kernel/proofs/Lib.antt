@@ -10,3 +10,8 @@ pub mod AllSteps
 pub mod SortSteps
 pub mod Layers
 pub mod ChangeLaws
+mod NameForms
+mod ScopeForms
+mod OccurrenceForms
+mod SplittingForms
+mod ListedForms

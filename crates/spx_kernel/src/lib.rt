@@ -4,13 +4,22 @@
 //! (`step_is_valid`), and where that one is of Boolean terms, so are they (`step_keeps_sorts`).
 #![tactic(auto)]
 
+mod certificate;
 mod change;
+mod division;
+mod element;
 mod fault;
-mod logic;
-mod quantifier;
 mod laws;
+mod logic;
+mod names;
+mod parts;
+mod quantifier;
+mod rewriting;
 mod rule;
+mod scope;
+mod stepping;
 
 pub use fault::StepFault;
 pub use laws::{step_is_valid, step_keeps_sorts};
 pub use rule::{Entry, Rule, RuleOf};
+pub use stepping::{step, step_on};

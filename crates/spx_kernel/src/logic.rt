@@ -51,7 +51,12 @@ pub(crate) fn goal_copied(alloc: Global, copied: &Term) -> Result<Change, AllocE
 }
 
 /// An operation as one more hypothesis.
-fn hyp_of(alloc: Global, op: TermOp, left: &Term, right: &Term) -> Result<Change, AllocError>
+pub(crate) fn hyp_of(
+    alloc: Global,
+    op: TermOp,
+    left: &Term,
+    right: &Term,
+) -> Result<Change, AllocError>
     ensures { IfOk result (λ c. c ≡ change_hyp (term.Infix op left.now right.now)) }
 {
     let operation = operation(alloc, op, left, right)?;
