@@ -1,9 +1,9 @@
 -- What the entries of a certificate name, and their forms.
-use Rattle.std.proofs.Common.{◌≡◌, ℕ, suc, drop, ◌&&◌, ◌||◌, ℤ, pos, int_le, Bool, true, false, Option, Some, None, List, [], ◌∷◌, ◌++◌, length, map, refl, sym, ap, ap₂, subst, ◌∙◌, append_assoc, if◌then◌else◌}
-use Rattle.std.proofs.lemmas.List.{append-nil}
+use Rattle.std.proofs.Common.{◌≡◌, ℕ, suc, ◌+◌, ◌<◌, drop, get_or, arith, ◌&&◌, ◌||◌, ℤ, pos, int_le, Bool, true, false, Option, Some, None, List, [], ◌∷◌, ◌++◌, length, map, refl, sym, ap, ap₂, subst, ◌∙◌, append_assoc, if◌then◌else◌}
+use Rattle.std.proofs.Math.Seq.{drop-cons}
 use Rattle.std.specs.List.{list_all}
 use Rattle.std.proofs.lemmas.Bool.{and_parts}
-use Rattle.std.proofs.lemmas.List.{length-map}
+use Rattle.std.proofs.lemmas.List.{append-nil, length-map}
 use Rattle.spx_term.specs.declared.condition.Sequent.{Sequent}
 use Rattle.spx_term.specs.declared.term.Term.{Term}
 use Rattle.spx_linear.specs.declared.form.Form.{Form}
@@ -151,3 +151,26 @@ forms_stop all rest i t fs cut is h = form_item all rest i t fs None cut is h �
 
 pub forms_end : (all : List Term) (i : ℕ) (fs : List Form) → drop i all ≡ [] → FormsSoFar all fs (drop i all) → forms_of all ≡ Some fs
 forms_end all i fs cut h = h.so_far ∙ ap (λ xs. after fs (forms_of xs)) cut ∙ forms_last fs
+
+-- ---- one turn of a loop
+
+cut_at : {A : Type 0} (xs : List A) (i : ℕ) (d : A) → i < length xs → drop i xs ≡ get_or xs i d ∷ drop (i + 1) xs
+cut_at xs i d h = let next : suc i ≡ i + 1 = omega arith in drop-cons xs i d h ∙ ap (λ n. get_or xs i d ∷ drop n xs) next
+
+pub listed_at : (s : Sequent) (es : List Entry) (i : ℕ) (d : Entry) (ts new : List Term) (t : Term) → i < length es → listed (get_or es i d).by (named s (get_or es i d).hyp) ≡ Some t → new ≡ ts ++ t ∷ []
+    → all_listed s es ≡ after ts (all_listed s (drop i es)) → all_listed s es ≡ after new (all_listed s (drop (i + 1) es))
+listed_at s es i d ts new t h is new_is so_far =
+    listed_on s es (drop (i + 1) es) i (get_or es i d) ts t (cut_at es i d h) is so_far ∙ ap (λ xs. after xs (all_listed s (drop (i + 1) es))) (sym new_is)
+
+pub listed_stop_at : (s : Sequent) (es : List Entry) (i : ℕ) (d : Entry) (ts : List Term) → i < length es → listed (get_or es i d).by (named s (get_or es i d).hyp) ≡ None → all_listed s es ≡ after ts (all_listed s (drop i es))
+    → all_listed s es ≡ None
+listed_stop_at s es i d ts h is so_far = listed_stop s es (drop (i + 1) es) i (get_or es i d) ts (cut_at es i d h) is so_far
+
+cut_item : (all : List Term) (i : ℕ) (t : Term) → i < length all → t ≡ get_or all i t → drop i all ≡ t ∷ drop (i + 1) all
+cut_item all i t h is = cut_at all i t h ∙ ap (λ x. x ∷ drop (i + 1) all) (sym is)
+
+pub forms_at : (all : List Term) (i : ℕ) (t : Term) (fs new : List Form) (f : Form) → i < length all → t ≡ get_or all i t → linear_form t ≡ Some f → new ≡ fs ++ f ∷ [] → FormsSoFar all fs (drop i all) → FormsSoFar all new (drop (i + 1) all)
+forms_at all i t fs new f h item is new_is so_far = subst (λ xs. FormsSoFar all xs (drop (i + 1) all)) (sym new_is) (forms_on all (drop (i + 1) all) i t fs f (cut_item all i t h item) is so_far)
+
+pub forms_stop_at : (all : List Term) (i : ℕ) (t : Term) (fs : List Form) → i < length all → t ≡ get_or all i t → linear_form t ≡ None → FormsSoFar all fs (drop i all) → forms_of all ≡ None
+forms_stop_at all i t fs h item is so_far = forms_stop all (drop (i + 1) all) i t fs (cut_item all i t h item) is so_far
