@@ -127,11 +127,7 @@ fn is_allowed(comparison: &Term, by: i128) -> bool
 }
 
 /// What an entry names, where it may be multiplied so.
-fn listed(
-    alloc: Global,
-    sequent: &Sequent,
-    entry: Entry,
-) -> Result<Option<Boxed<Term>>, AllocError>
+fn listed(alloc: Global, sequent: &Sequent, entry: Entry) -> Result<Option<Boxed<Term>>, AllocError>
     ensures { IfOk result (λ r. r ≡ listed entry.by (named sequent.now entry.hyp)) }
 {
     match named(alloc, sequent, entry.hyp)? {

@@ -25,11 +25,7 @@ fn against_zero(alloc: Global, op: TermOp, left: Boxed<Term>) -> Result<Boxed<Te
 }
 
 /// A copy of a term against 0.
-fn copy_against_zero(
-    alloc: Global,
-    op: TermOp,
-    left: &Term,
-) -> Result<Boxed<Term>, AllocError>
+fn copy_against_zero(alloc: Global, op: TermOp, left: &Term) -> Result<Boxed<Term>, AllocError>
     ensures { IfOk result (λ t. t ≡ term.Infix op left.now zero_term) }
 {
     let copy = boxed_copy(alloc, left)?;
@@ -86,11 +82,7 @@ fn dividend_fact(alloc: Global, left: &Term, right: &Term) -> Result<Boxed<Term>
 }
 
 /// The remainder's magnitude.
-fn remainder_magnitude(
-    alloc: Global,
-    left: &Term,
-    right: &Term,
-) -> Result<Boxed<Term>, AllocError>
+fn remainder_magnitude(alloc: Global, left: &Term, right: &Term) -> Result<Boxed<Term>, AllocError>
     ensures { IfOk result (λ t. t ≡ term.Prefix sign.Abs (term.Infix op.Rem left.now right.now)) }
 {
     let remainder = operation(alloc, TermOp::Rem, left, right)?;

@@ -41,7 +41,7 @@ pub(crate) struct Splitting {
     pub(crate) unequal: Boxed<Term>,
 }
 
-/// A term, in which there may be an element of an updated array.
+/// What the first element of an updated array gives, if there is one.
 type Found = Option<Boxed<Splitting>>;
 
 /// What was found.
@@ -66,6 +66,7 @@ fn found(
 
 // ---- around a part
 
+/// With an operator before it.
 fn in_prefix(alloc: Global, op: TermPrefix, part: Found) -> Result<Found, AllocError>
     ensures { IfOk result (λ r. r ≡ wrap (term.Prefix op) part) }
 {
@@ -75,11 +76,8 @@ fn in_prefix(alloc: Global, op: TermPrefix, part: Found) -> Result<Found, AllocE
     }
 }
 
-fn around_prefix(
-    alloc: Global,
-    op: TermPrefix,
-    part: Boxed<Splitting>,
-) -> Result<Found, AllocError>
+/// The same where there is one.
+fn around_prefix(alloc: Global, op: TermPrefix, part: Boxed<Splitting>) -> Result<Found, AllocError>
     ensures { IfOk result (λ r. r ≡ wrap (term.Prefix op) (Some part)) }
 {
     let Splitting {
@@ -92,11 +90,8 @@ fn around_prefix(
     found(alloc, indexes, equal, unequal)
 }
 
-fn in_unary(
-    alloc: Global,
-    op: UnaryOp,
-    part: Found,
-) -> Result<Found, AllocError>
+/// With an operation on one term around it.
+fn in_unary(alloc: Global, op: UnaryOp, part: Found) -> Result<Found, AllocError>
     ensures { IfOk result (λ r. r ≡ wrap (term.Unary op) part) }
 {
     match part {
@@ -105,11 +100,8 @@ fn in_unary(
     }
 }
 
-fn around_unary(
-    alloc: Global,
-    op: UnaryOp,
-    part: Boxed<Splitting>,
-) -> Result<Found, AllocError>
+/// The same where there is one.
+fn around_unary(alloc: Global, op: UnaryOp, part: Boxed<Splitting>) -> Result<Found, AllocError>
     ensures { IfOk result (λ r. r ≡ wrap (term.Unary op) (Some part)) }
 {
     let Splitting {
@@ -122,6 +114,7 @@ fn around_unary(
     found(alloc, indexes, equal, unequal)
 }
 
+/// An operation, of which this is the left operand.
 fn left_of_infix(
     alloc: Global,
     op: TermOp,
@@ -134,12 +127,8 @@ fn left_of_infix(
     boxed_infix(alloc, op, part, right)
 }
 
-fn in_left(
-    alloc: Global,
-    op: TermOp,
-    right: &Term,
-    part: Found,
-) -> Result<Found, AllocError>
+/// With the right operand of an operation beside it.
+fn in_left(alloc: Global, op: TermOp, right: &Term, part: Found) -> Result<Found, AllocError>
     ensures { IfOk result (λ r. r ≡ wrap (λ x. term.Infix op x right.now) part) }
 {
     match part {
@@ -148,6 +137,7 @@ fn in_left(
     }
 }
 
+/// The same where there is one.
 fn around_left(
     alloc: Global,
     op: TermOp,
@@ -166,6 +156,7 @@ fn around_left(
     found(alloc, indexes, equal, unequal)
 }
 
+/// An operation, of which this is the right operand.
 fn right_of_infix(
     alloc: Global,
     op: TermOp,
@@ -178,12 +169,8 @@ fn right_of_infix(
     boxed_infix(alloc, op, left, part)
 }
 
-fn in_right(
-    alloc: Global,
-    op: TermOp,
-    left: &Term,
-    part: Found,
-) -> Result<Found, AllocError>
+/// With the left operand of an operation beside it.
+fn in_right(alloc: Global, op: TermOp, left: &Term, part: Found) -> Result<Found, AllocError>
     ensures { IfOk result (λ r. r ≡ wrap (term.Infix op left.now) part) }
 {
     match part {
@@ -192,6 +179,7 @@ fn in_right(
     }
 }
 
+/// The same where there is one.
 fn around_right(
     alloc: Global,
     op: TermOp,
@@ -210,6 +198,7 @@ fn around_right(
     found(alloc, indexes, equal, unequal)
 }
 
+/// An operation on a composite value and another term, of which this is the former.
 fn left_of_binary(
     alloc: Global,
     op: BinaryOp,
@@ -222,12 +211,8 @@ fn left_of_binary(
     boxed_binary(alloc, op, part, right)
 }
 
-fn in_former(
-    alloc: Global,
-    op: BinaryOp,
-    right: &Term,
-    part: Found,
-) -> Result<Found, AllocError>
+/// With the other term of an operation on a composite value beside it.
+fn in_former(alloc: Global, op: BinaryOp, right: &Term, part: Found) -> Result<Found, AllocError>
     ensures { IfOk result (λ r. r ≡ wrap (λ x. term.Binary op x right.now) part) }
 {
     match part {
@@ -236,6 +221,7 @@ fn in_former(
     }
 }
 
+/// The same where there is one.
 fn around_former(
     alloc: Global,
     op: BinaryOp,
@@ -254,6 +240,7 @@ fn around_former(
     found(alloc, indexes, equal, unequal)
 }
 
+/// An operation on a composite value and another term, of which this is the latter.
 fn right_of_binary(
     alloc: Global,
     op: BinaryOp,
@@ -266,12 +253,8 @@ fn right_of_binary(
     boxed_binary(alloc, op, left, part)
 }
 
-fn in_latter(
-    alloc: Global,
-    op: BinaryOp,
-    left: &Term,
-    part: Found,
-) -> Result<Found, AllocError>
+/// With the composite value of an operation on it beside it.
+fn in_latter(alloc: Global, op: BinaryOp, left: &Term, part: Found) -> Result<Found, AllocError>
     ensures { IfOk result (λ r. r ≡ wrap (term.Binary op left.now) part) }
 {
     match part {
@@ -280,6 +263,7 @@ fn in_latter(
     }
 }
 
+/// The same where there is one.
 fn around_latter(
     alloc: Global,
     op: BinaryOp,
@@ -298,6 +282,7 @@ fn around_latter(
     found(alloc, indexes, equal, unequal)
 }
 
+/// An updated array, of which this is the array before.
 fn first_of_update(
     alloc: Global,
     id: usize,
@@ -312,6 +297,7 @@ fn first_of_update(
     boxed_ternary(alloc, TernaryOp::Update(id), part, second, third)
 }
 
+/// With the index and the new element of an updated array beside it.
 fn in_first(
     alloc: Global,
     id: usize,
@@ -327,6 +313,7 @@ fn in_first(
     }
 }
 
+/// The same where there is one.
 fn around_first(
     alloc: Global,
     id: usize,
@@ -346,6 +333,7 @@ fn around_first(
     found(alloc, indexes, equal, unequal)
 }
 
+/// An updated array, of which this is the index.
 fn second_of_update(
     alloc: Global,
     id: usize,
@@ -360,6 +348,7 @@ fn second_of_update(
     boxed_ternary(alloc, TernaryOp::Update(id), first, part, third)
 }
 
+/// With the array before and the new element of an updated array beside it.
 fn in_second(
     alloc: Global,
     id: usize,
@@ -375,6 +364,7 @@ fn in_second(
     }
 }
 
+/// The same where there is one.
 fn around_second(
     alloc: Global,
     id: usize,
@@ -394,6 +384,7 @@ fn around_second(
     found(alloc, indexes, equal, unequal)
 }
 
+/// An updated array, of which this is the new element.
 fn third_of_update(
     alloc: Global,
     id: usize,
@@ -408,6 +399,7 @@ fn third_of_update(
     boxed_ternary(alloc, TernaryOp::Update(id), first, second, part)
 }
 
+/// With the array before and the index of an updated array beside it.
 fn in_third(
     alloc: Global,
     id: usize,
@@ -423,6 +415,7 @@ fn in_third(
     }
 }
 
+/// The same where there is one.
 fn around_third(
     alloc: Global,
     id: usize,
@@ -461,6 +454,7 @@ fn of_update(
     found(alloc, indexes, equal, unequal)
 }
 
+/// Copies of the indexes.
 fn indexes_of(
     alloc: Global,
     array: ArrayType,
@@ -475,12 +469,7 @@ fn indexes_of(
 }
 
 /// `A[j]`
-fn element(
-    alloc: Global,
-    array: ArrayType,
-    of: &Term,
-    at: &Term,
-) -> Result<Boxed<Term>, AllocError>
+fn element(alloc: Global, array: ArrayType, of: &Term, at: &Term) -> Result<Boxed<Term>, AllocError>
     ensures { IfOk result (λ t. t ≡ term.Binary (BinaryOp.Element array) of.now at.now) }
 {
     let of = boxed_copy(alloc, of)?;

@@ -8,9 +8,9 @@ ghost use Rattle.spx_term.specs.declared.term.Term.TheVariants as term;
 ghost use Rattle.spx_kernel.specs.Changes.{Leaves, change_goal, change_hyp};
 ghost use Rattle.spx_kernel.specs.Steps.{cases_in, cases_infix, intro_in, intro_infix, intro_prefix, pick_in, pick_infix, split_in, split_infix, use_in, use_infix, use_prefix};
 
+use crate::StepFault;
 use crate::change::{Change, Changes, boxed_copy, goal, hyp, two_hyps};
 use crate::quantifier::{intro_ternary, use_ternary};
-use crate::StepFault;
 use spx_term::{Sequent, Term, TermOp, TermPrefix, boxed_infix, is_numeric};
 use sqlite_items::Boxed;
 use std::alloc::{AllocError, Global};
@@ -107,12 +107,7 @@ fn both_directions(alloc: Global, left: &Term, right: &Term) -> Result<Changes, 
 }
 
 /// The step `split` on a goal that is an operation.
-fn split_infix(
-    alloc: Global,
-    op: TermOp,
-    left: &Term,
-    right: &Term,
-) -> Result<Changes, StepFault>
+fn split_infix(alloc: Global, op: TermOp, left: &Term, right: &Term) -> Result<Changes, StepFault>
     ensures { (s : Sequent) → Leaves result s (split_infix op s left.now right.now) }
 {
     match op {
@@ -122,7 +117,13 @@ fn split_infix(
             if !is_numeric(left) {
                 return Err(StepFault::DoesNotApply);
             }
-            Ok(two_goals(alloc, TermOp::LessOrEqual, TermOp::GreaterOrEqual, left, right)?)
+            Ok(two_goals(
+                alloc,
+                TermOp::LessOrEqual,
+                TermOp::GreaterOrEqual,
+                left,
+                right,
+            )?)
         }
         TermOp::Or | TermOp::Implies => Err(StepFault::DoesNotApply),
         TermOp::NotEqual | TermOp::Less | TermOp::LessOrEqual => Err(StepFault::DoesNotApply),
@@ -164,12 +165,7 @@ fn with_left(alloc: Global, left: &Term, right: &Term) -> Result<Changes, AllocE
 }
 
 /// The step `intro` on a goal that is an operation.
-fn intro_infix(
-    alloc: Global,
-    op: TermOp,
-    left: &Term,
-    right: &Term,
-) -> Result<Changes, StepFault>
+fn intro_infix(alloc: Global, op: TermOp, left: &Term, right: &Term) -> Result<Changes, StepFault>
     ensures { (s : Sequent) → Leaves result s (intro_infix op s left.now right.now) }
 {
     match op {
@@ -281,12 +277,7 @@ fn below_or_above(alloc: Global, left: &Term, right: &Term) -> Result<Changes, A
 }
 
 /// The step `cases` on a hypothesis that is an operation.
-fn cases_infix(
-    alloc: Global,
-    op: TermOp,
-    left: &Term,
-    right: &Term,
-) -> Result<Changes, StepFault>
+fn cases_infix(alloc: Global, op: TermOp, left: &Term, right: &Term) -> Result<Changes, StepFault>
     ensures { (s : Sequent) → Leaves result s (cases_infix op s left.now right.now) }
 {
     match op {
@@ -347,7 +338,11 @@ fn both_implications(alloc: Global, left: &Term, right: &Term) -> Result<Changes
 }
 
 /// A term as the goal, and then another one as a hypothesis.
-pub(crate) fn shown_and_used(alloc: Global, shown: &Term, used: &Term) -> Result<Changes, AllocError>
+pub(crate) fn shown_and_used(
+    alloc: Global,
+    shown: &Term,
+    used: &Term,
+) -> Result<Changes, AllocError>
     ensures { IfOk result (λ cs. cs ≡ changes.Two (change_goal shown.now) (change_hyp used.now)) }
 {
     let first = goal_copied(alloc, shown)?;
@@ -392,7 +387,15 @@ pub(crate) fn use_hyp(alloc: Global, sequent: &Sequent, hyp: &Term) -> Result<Ch
         Term::Infix(op, left, right) => use_infix(alloc, *op, left.get(), right.get()),
         Term::Prefix(op, operand) => use_prefix(alloc, *op, operand.get()),
         Term::Ternary(op, low, high, body) => {
-            use_ternary(alloc, *op.get(), sequent, hyp, low.get(), high.get(), body.get())
+            use_ternary(
+                alloc,
+                *op.get(),
+                sequent,
+                hyp,
+                low.get(),
+                high.get(),
+                body.get(),
+            )
         }
         Term::Number(_) => Err(StepFault::DoesNotApply),
         Term::Truth(_) => Err(StepFault::DoesNotApply),

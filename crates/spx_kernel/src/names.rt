@@ -12,13 +12,14 @@ use spx_term::{
 };
 use std::alloc::AllocError;
 
+/// Whether two names are equal.
 fn equals(a: Name, b: Name) -> bool
     ensures { IsTrue result ↔ (a ≡ b) }
 {
     a == b
 }
 
-/// Whether two names are equal.
+/// The same, and as a test.
 #[tactic(auto, using(spx_term::proofs::Equality::same_laws))]
 pub(crate) fn is_same(a: Name, b: Name) -> bool
     ensures equal { IsTrue result ↔ (a ≡ b) }
@@ -27,6 +28,7 @@ pub(crate) fn is_same(a: Name, b: Name) -> bool
     equals(a, b)
 }
 
+/// Whether a symbol names a value of the program, and not the variable of a quantifier.
 fn is_free(symbol: Symbol) -> bool
     ensures { result ≡ is_free symbol }
 {
@@ -152,6 +154,7 @@ pub(crate) fn is_over(sequent: &Sequent, term: &Term) -> Result<bool, AllocError
     has_names(term, sequent, MOST_LEVELS)
 }
 
+/// The number after `!`; other names have 0.
 fn number_after(symbol: Symbol) -> usize
     ensures { result ≡ number_after symbol }
 {
@@ -233,6 +236,7 @@ pub(crate) fn new_name(sequent: &Sequent, bound: BoundVariable) -> Result<Name, 
     })
 }
 
+/// Whether an operation on well-sorted operands is a truth value.
 fn gives_truth(op: TermOp) -> bool
     ensures { result ≡ gives_truth op }
 {
@@ -247,6 +251,7 @@ fn gives_truth(op: TermOp) -> bool
     }
 }
 
+/// Whether the values of this type are truth values.
 fn is_truth_type(component: Component) -> bool
     ensures { result ≡ is_truth_type component }
 {
@@ -257,6 +262,7 @@ fn is_truth_type(component: Component) -> bool
     }
 }
 
+/// Whether an operation on one term is a truth value.
 fn unary_truth(op: UnaryOp) -> bool
     ensures { result ≡ unary_truth op }
 {
@@ -267,6 +273,7 @@ fn unary_truth(op: UnaryOp) -> bool
     }
 }
 
+/// Whether an operation on a composite value and another term is a truth value.
 fn binary_truth(op: BinaryOp) -> bool
     ensures { result ≡ binary_truth op }
 {
@@ -278,6 +285,7 @@ fn binary_truth(op: BinaryOp) -> bool
     }
 }
 
+/// Whether an operation on three terms is a truth value.
 fn ternary_truth(op: TernaryOp) -> bool
     ensures { result ≡ ternary_truth op }
 {
@@ -287,6 +295,7 @@ fn ternary_truth(op: TernaryOp) -> bool
     }
 }
 
+/// Whether a sort is that of truth values.
 fn is_boolean_sort(sort: Sort) -> bool
     ensures { IsTrue result ↔ (sort ≡ Sort.Boolean) }
 {
@@ -297,7 +306,7 @@ fn is_boolean_sort(sort: Sort) -> bool
     }
 }
 
-/// Whether a sort is that of truth values.
+/// The same by the test.
 #[tactic(auto, using(crate::proofs::NameForms::sort_laws))]
 fn has_truth_sort(sort: Sort) -> bool
     ensures { result ≡ same_sort sort Sort.Boolean }

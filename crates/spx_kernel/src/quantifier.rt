@@ -33,12 +33,7 @@ fn compared(
 }
 
 /// A number lies between two others, as two facts.
-fn from_to(
-    alloc: Global,
-    number: &Term,
-    low: &Term,
-    high: &Term,
-) -> Result<Items<Term>, AllocError>
+fn from_to(alloc: Global, number: &Term, low: &Term, high: &Term) -> Result<Items<Term>, AllocError>
     ensures { IfOk result (λ r. r ≡ from_to number.now low.now high.now) }
 {
     let above = compared(alloc, TermOp::GreaterOrEqual, number, low)?;
@@ -321,7 +316,16 @@ pub(crate) fn inst_in(
 {
     match hyp {
         Term::Ternary(op, low, high, body) => {
-            inst_ternary(alloc, *op.get(), sequent, number, hyp, low.get(), high.get(), body.get())
+            inst_ternary(
+                alloc,
+                *op.get(),
+                sequent,
+                number,
+                hyp,
+                low.get(),
+                high.get(),
+                body.get(),
+            )
         }
         Term::Number(_) => Err(StepFault::DoesNotApply),
         Term::Truth(_) => Err(StepFault::DoesNotApply),
@@ -336,16 +340,20 @@ pub(crate) fn inst_in(
 
 /// The step `give`.
 #[tactic(auto, using(crate::proofs::Layers::layers))]
-pub(crate) fn give_in(
-    alloc: Global,
-    sequent: &Sequent,
-    number: &Term,
-) -> Result<Changes, StepFault>
+pub(crate) fn give_in(alloc: Global, sequent: &Sequent, number: &Term) -> Result<Changes, StepFault>
     ensures { Leaves result sequent.now (give_in sequent.now number.now (out-Term sequent.now.goal)) }
 {
     match &sequent.goal {
         Term::Ternary(op, low, high, body) => {
-            give_ternary(alloc, *op.get(), sequent, number, low.get(), high.get(), body.get())
+            give_ternary(
+                alloc,
+                *op.get(),
+                sequent,
+                number,
+                low.get(),
+                high.get(),
+                body.get(),
+            )
         }
         Term::Number(_) => Err(StepFault::DoesNotApply),
         Term::Truth(_) => Err(StepFault::DoesNotApply),

@@ -14,9 +14,8 @@ use crate::change::{Changes, goal, hyp};
 use crate::parts::hyp_at;
 use crate::scope::{depth_in, stands_alone};
 use spx_term::{
-    MOST_LEVELS, Sequent, Term, TermOp, boxed_binary, boxed_blank, boxed_infix,
-    boxed_number, boxed_prefix, boxed_ternary, boxed_truth, boxed_unary, boxed_variable, raised,
-    same,
+    MOST_LEVELS, Sequent, Term, TermOp, boxed_binary, boxed_blank, boxed_infix, boxed_number,
+    boxed_prefix, boxed_ternary, boxed_truth, boxed_unary, boxed_variable, raised, same,
 };
 use sqlite_items::Boxed;
 use std::alloc::{AllocError, Global};

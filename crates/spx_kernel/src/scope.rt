@@ -19,9 +19,7 @@ use std::alloc::{AllocError, Global};
 fn is_bound_in(scope: &[BoundVariable], bound: BoundVariable) -> bool
     ensures { result ≡ is_bound_in scope.now bound }
 {
-    scope
-        .iter()
-        .any(|other| bound.depth == other.depth && bound.variable == other.variable)
+    scope.iter().any(|other| bound.depth == other.depth && bound.variable == other.variable)
 }
 
 /// Whether a name of a quantifier's variable is that of a quantifier around it.
@@ -126,11 +124,7 @@ pub(crate) fn stands_alone(alloc: Global, term: &Term) -> Result<bool, AllocErro
 }
 
 /// Whether a term is one over the names of a sequent, which stands alone.
-pub(crate) fn may_stand(
-    alloc: Global,
-    sequent: &Sequent,
-    term: &Term,
-) -> Result<bool, AllocError>
+pub(crate) fn may_stand(alloc: Global, sequent: &Sequent, term: &Term) -> Result<bool, AllocError>
     ensures { IfOk result (λ yes. yes ≡ may_stand sequent.now term.now) }
 {
     let alone = stands_alone(alloc, term)?;
@@ -140,6 +134,7 @@ pub(crate) fn may_stand(
 
 // ---- a term for the variable of a quantifier
 
+/// A variable of a quantifier one level less deep.
 fn shallower(bound: BoundVariable) -> BoundVariable
     ensures { result ≡ shallower bound }
 {

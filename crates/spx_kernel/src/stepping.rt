@@ -107,12 +107,7 @@ fn inst_at(
 
 /// The step `inst`.
 #[tactic(auto, unfolding(crate::specs::Steps::step))]
-fn inst(
-    alloc: Global,
-    sequent: &Sequent,
-    number: i128,
-    term: &Term,
-) -> Result<Changes, StepFault>
+fn inst(alloc: Global, sequent: &Sequent, number: i128, term: &Term) -> Result<Changes, StepFault>
     ensures { Leaves result sequent.now (step sequent.now (RuleOf.Inst number term.now)) }
 {
     if !is_numeric(term) {
@@ -202,11 +197,7 @@ fn left_of(
 }
 
 /// The sequents that a step leaves, of which the last one takes the hypotheses.
-fn stepped(
-    alloc: Global,
-    sequent: Boxed<Sequent>,
-    rule: &Rule,
-) -> Result<Items<Sequent>, StepFault>
+fn stepped(alloc: Global, sequent: Boxed<Sequent>, rule: &Rule) -> Result<Items<Sequent>, StepFault>
     ensures { Answers result (step sequent rule.now) }
 {
     match changes_of(alloc, sequent.get(), rule) {
@@ -226,11 +217,7 @@ pub fn step(alloc: Global, sequent: &Sequent, rule: &Rule) -> Result<Items<Seque
 }
 
 /// The same, where the sequent is not needed any more: the last of the sequents that are left takes its hypotheses.
-pub fn step_on(
-    alloc: Global,
-    sequent: Sequent,
-    rule: &Rule,
-) -> Result<Items<Sequent>, StepFault>
+pub fn step_on(alloc: Global, sequent: Sequent, rule: &Rule) -> Result<Items<Sequent>, StepFault>
     ensures { Answers result (step sequent rule.now) }
 {
     let boxed = Boxed::new(alloc, sequent)?;
