@@ -1,5 +1,5 @@
 -- Whether a term occurs in another one, and the other one with a third for it, at each form of a term.
-use Rattle.std.proofs.Common.{◌≡◌, ℕ, ◌+◌, ℤ, Bool, true, false, ◌||◌, Option, Some, None, refl, sym, ap, ap₂, ◌∙◌, if◌then◌else◌}
+use Rattle.std.proofs.Common.{◌≡◌, ℕ, ◌+◌, ℤ, Bool, true, false, ◌||◌, Some, None, refl, sym, ap, ◌∙◌, if◌then◌else◌}
 use Rattle.spx_term.specs.declared.term.Name.{Name}
 use Rattle.spx_term.specs.declared.term.TermOp.{TermOp}
 use Rattle.spx_term.specs.declared.term.TermPrefix.{TermPrefix}

@@ -1,5 +1,5 @@
 -- Scopes, and a term for the variable of a quantifier, at each form of a term.
-use Rattle.std.proofs.Common.{◌≡◌, ℕ, suc, ◌+◌, ℤ, ◌==◌, Bool, true, false, ◌&&◌, [], ◌∷◌, ◌++◌, length, refl, sym, ap, ap₂, ◌∙◌, arith}
+use Rattle.std.proofs.Common.{◌≡◌, ℕ, suc, ◌+◌, ℤ, ◌==◌, Bool, true, false, ◌&&◌, [], ◌∷◌, ◌++◌, length, refl, sym, ap, ◌∙◌, arith}
 use Rattle.std.proofs.lemmas.List.{length-append}
 use Rattle.spx_term.specs.declared.term.BoundVariable.{BoundVariable}
 use Rattle.spx_term.specs.declared.term.Name.{Name}
@@ -7,7 +7,6 @@ use Rattle.spx_term.specs.declared.term.TermOp.{TermOp}
 use Rattle.spx_term.specs.declared.term.TermPrefix.{TermPrefix}
 use Rattle.spx_term.specs.declared.term.UnaryOp.{UnaryOp}
 use Rattle.spx_term.specs.declared.term.BinaryOp.{BinaryOp}
-use Rattle.spx_term.specs.declared.term.Quantifier.{Quantifier}
 use Rattle.spx_term.specs.declared.term.TernaryOp.{TernaryOp}
 use Rattle.spx_term.specs.declared.term.TernaryOp.TheVariants as ternary
 use Rattle.spx_term.specs.declared.term.Term.{Term, Term-F}

@@ -1,9 +1,7 @@
 -- The first element of an updated array, at each form of a term.
 use Rattle.std.proofs.Common.{◌≡◌, ℕ, ℤ, Bool, Option, Some, None, refl, ap, ap₂, ◌∙◌}
 use Rattle.spx_term.specs.declared.condition.Sequent.{Sequent}
-use Rattle.spx_term.specs.declared.term.BoundVariable.{BoundVariable}
 use Rattle.spx_term.specs.declared.term.Name.{Name}
-use Rattle.spx_term.specs.declared.term.Quantifier.{Quantifier}
 use Rattle.spx_term.specs.declared.term.TermOp.{TermOp}
 use Rattle.spx_term.specs.declared.term.TermPrefix.{TermPrefix}
 use Rattle.spx_term.specs.declared.term.UnaryOp.{UnaryOp}
@@ -14,7 +12,6 @@ use Rattle.spx_term.specs.declared.term.TernaryOp.TheVariants as ternary
 use Rattle.spx_term.specs.declared.term.Term.{Term, fold-Term}
 use Rattle.spx_term.specs.declared.term.Term.TheVariants.{Number, Truth, Variable, Blank, Prefix, Infix, Unary, Binary, Ternary}
 use Rattle.spx_term.proofs.Terms.{Cases, induct, fold-Number, fold-Truth, fold-Variable, fold-Blank, fold-Prefix, fold-Infix, fold-Unary, fold-Binary, fold-Ternary}
-use Rattle.spx_kernel.specs.declared.element.Splitting.{Splitting}
 use Rattle.spx_kernel.specs.Elements.{Spot, Search, within, first, read_here, in_order, ternary_spot, search_step, spot_of}
 use Rattle.spx_kernel.specs.Splittings.{of_spot, wrap, either, ordered, read, splitting, in_ternary, split_at}
 use Rattle.spx_kernel.specs.Steps.{elem_at}

@@ -8,7 +8,6 @@ use Rattle.spx_term.specs.declared.term.TernaryOp.{TernaryOp}
 use Rattle.spx_term.specs.declared.term.TernaryOp.TheVariants as ternary
 use Rattle.spx_term.specs.declared.term.Term.{Term}
 use Rattle.spx_term.specs.declared.term.Term.TheVariants.{Number, Infix, Binary, Ternary}
-use Rattle.spx_kernel.specs.declared.element.Indexes.{Indexes}
 use Rattle.spx_kernel.specs.declared.element.Splitting.{Splitting}
 use Rattle.spx_kernel.specs.Sequents.{Answer, refused, with_hyp, with_goal}
 use Rattle.spx_kernel.specs.Elements.{Spot, read_here, spot_of}

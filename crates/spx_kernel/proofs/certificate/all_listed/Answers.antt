@@ -1,4 +1,4 @@
-use Rattle.std.proofs.Common.{◌≡◌, Some, sym, ap, ◌∙◌}
+use Rattle.std.proofs.Common.{Some, sym, ap, ◌∙◌}
 use Rattle.std.proofs.lemmas.List.{drop_all}
 use Rattle.spx_kernel.proofs.ListedForms.{listed_at, listed_stop_at, listed_end}
 use Rattle.spx_kernel.proofs.certificate.all_listed.Goals as goal

@@ -1,4 +1,4 @@
-use Rattle.std.proofs.Common.{◌≡◌, true, ap, sym, ◌∙◌}
+use Rattle.std.proofs.Common.{◌≡◌, true}
 use Rattle.spx_term.specs.Equality.{same_term}
 use Rattle.spx_term.specs.Substitution.{raised}
 use Rattle.spx_kernel.proofs.OccurrenceForms.{replaced_itself}
