@@ -9,3 +9,9 @@ pub mod ElementLaws
 pub mod AllSteps
 pub mod SortSteps
 pub mod Layers
+pub mod ChangeLaws
+mod NameForms
+mod ScopeForms
+mod OccurrenceForms
+mod SplittingForms
+mod ListedForms
