@@ -80,3 +80,6 @@ mod PartPrograms
 mod LinearMeaning
 mod CompositePlain
 mod CompositeValid
+mod ScriptFolding
+mod ScriptSorts
+mod ScriptLoop

@@ -34,3 +34,4 @@ pub mod CompositeExamples
 pub mod PartExamples
 pub mod PartPrograms
 pub mod LinearExamples
+pub mod ScriptExamples

@@ -22,6 +22,7 @@ pub mod operator_laws;
 pub mod part_laws;
 pub mod part_program_laws;
 pub mod run_laws;
+pub mod script_laws;
 pub mod selection_laws;
 pub mod sequent_laws;
 pub mod text_laws;
