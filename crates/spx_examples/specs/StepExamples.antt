@@ -6,7 +6,6 @@ use Rattle.spx_term.specs.declared.term.BoundVariable.{BoundVariable}
 use Rattle.spx_term.specs.declared.term.Component.TheVariants as component
 use Rattle.spx_term.specs.declared.term.Sort.TheVariants.{Integer, Composite}
 use Rattle.spx_term.specs.declared.term.Symbol.TheVariants.{New, Bound}
-use Rattle.spx_term.specs.declared.term.Quantifier.{Quantifier}
 use Rattle.spx_term.specs.declared.term.Quantifier.TheVariants as quantifier
 use Rattle.spx_term.specs.declared.term.TermOp.TheVariants as op
 use Rattle.spx_term.specs.declared.term.TermPrefix.TheVariants as sign
@@ -15,7 +14,7 @@ use Rattle.spx_term.specs.declared.term.TernaryOp.TheVariants as ternary
 use Rattle.spx_term.specs.declared.term.Term.{Term}
 use Rattle.spx_term.specs.declared.term.Term.TheVariants.{Truth, Variable, Prefix, Infix, Binary, Ternary}
 use Rattle.spx_kernel.specs.declared.rule.Entry.{Entry}
-use Rattle.spx_examples.specs.LinearExamples.{variable, integer_s, integer_i, integer_n, number, sum, product, equal, less, at_most, greater, at_least}
+use Rattle.spx_examples.specs.LinearExamples.{variable, i_in_range, n_is_small, integer_s, integer_i, integer_n, number, sum, product, equal, less, at_most, greater, at_least}
 
 -- ---- sequents and entries
 
@@ -60,6 +59,16 @@ falsity = Truth false
 -- `(a >= low) and (a <= high)`
 abbrev pub lies_in : Term → Term → Term → Term
 lies_in a low high = both (at_least a low) (at_most a high)
+
+-- ---- certificates
+
+-- `I <= N` and `N <= 1000`
+abbrev pub two_bounds : List Term
+two_bounds = i_in_range ∷ n_is_small ∷ []
+
+-- `I <= 1000`, which follows
+abbrev pub i_is_small : Term
+i_is_small = at_most integer_i (number 1000)
 
 -- ---- divisions
 
@@ -123,6 +132,18 @@ some_to_n p = Ternary (ternary.Quantified quantifier.Some (of_j 1)) (number 1) i
 abbrev pub all_k_to : ℕ → Term → Term → Term
 all_k_to d a p = Ternary (ternary.Quantified quantifier.All (of_k d)) (number 1) a p
 
+-- `for all J#1 in 1 .. N => (J#1 <= S)`
+abbrev pub all_below_s : Term
+all_below_s = all_to_n (at_most (bound_j 1) integer_s)
+
+-- `for some J#1 in 1 .. N => (J#1 <= S)`
+abbrev pub some_below_s : Term
+some_below_s = some_to_n (at_most (bound_j 1) integer_s)
+
+-- `for all J#1 in 1 .. N => (for all K#2 in 1 .. J#1 => (K#2 <= J#1))`
+abbrev pub one_in_another : Term
+one_in_another = all_to_n (all_k_to 2 (bound_j 1) (at_most (bound_k 2) (bound_j 1)))
+
 -- ---- arrays
 
 -- an array type with a number from 0 to 9 at each index from 1 to 3
@@ -140,3 +161,14 @@ element a i = Binary (binary.Element digits) a i
 -- `a[i => e]`
 abbrev pub updated : Term → Term → Term → Term
 updated a i e = Ternary (ternary.Update 0) a i e
+
+-- `A[I => S][N]` and `A[N => S][I]`
+abbrev pub n_of_update : Term
+n_of_update = element (updated array_a integer_i integer_s) integer_n
+
+abbrev pub i_of_update : Term
+i_of_update = element (updated array_a integer_n integer_s) integer_i
+
+-- `A[N]`
+abbrev pub n_of_a : Term
+n_of_a = element array_a integer_n

@@ -14,7 +14,8 @@ unfolding step same_name same_sort same_by names_of is_over is_boolean out-Term 
 returns c = record {
   names = simp (term_folds, scoped_forms);
   no_names = simp (term_folds, scoped_forms);
+  quantifier = simp (term_folds, scoped_forms);
   another_name = simp (term_folds, scoped_forms);
-  variable_of_none = simp (term_folds, scoped_forms);
+  variable_of_a_quantifier = simp (term_folds, scoped_forms);
   integer = refl;
 }

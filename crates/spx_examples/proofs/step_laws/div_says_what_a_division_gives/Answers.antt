@@ -15,6 +15,5 @@ returns c = record {
   quotient = simp (term_folds, scoped_forms);
   remainder = simp (term_folds, scoped_forms);
   modulus = simp (term_folds, scoped_forms);
-  product = simp (term_folds, scoped_forms);
-  another_name = simp (term_folds, scoped_forms);
+  total = simp (term_folds, scoped_forms);
 }

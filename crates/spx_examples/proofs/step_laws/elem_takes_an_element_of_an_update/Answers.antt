@@ -7,8 +7,9 @@ use Rattle.spx_examples.proofs.step_laws.elem_takes_an_element_of_an_update.Goal
 pub returns : goal.returns
 unfolding out-Term out shown-the_row-Term-0 shown hidden-the_row-Term-0 hidden
 returns c = record {
-  element = elem_by _ _ (infix_found _ _ _ (binary_found _ _ _ (ternary_found _ _ _ _ variable_found variable_found variable_found) variable_found) number_found);
+  only = elem_by _ _ (infix_found _ _ _ (binary_found _ _ _ (ternary_found _ _ _ _ variable_found variable_found variable_found) variable_found) number_found);
   leftmost = elem_by _ _ (infix_found _ _ _ (binary_found _ _ _ (ternary_found _ _ _ _ variable_found variable_found variable_found) variable_found) (binary_found _ _ _ (ternary_found _ _ _ _ variable_found variable_found variable_found) variable_found));
   no_update = elem_by _ _ (infix_found _ _ _ (binary_found _ _ _ variable_found variable_found) number_found);
+  in_a_hypothesis = elem_by _ _ (infix_found _ _ _ (binary_found _ _ _ variable_found variable_found) number_found);
   in_a_quantifier = elem_by _ _ (ternary_found _ _ _ _ number_found variable_found (infix_found _ _ _ (binary_found _ _ _ (ternary_found _ _ _ _ variable_found variable_found variable_found) variable_found) number_found));
 }

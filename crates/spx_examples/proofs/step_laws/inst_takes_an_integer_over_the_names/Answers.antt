@@ -15,7 +15,7 @@ pub returns : goal.returns
 unfolding step same_name same_by form_of raised names_of is_over out-Term out the_depth depth fold shown-the_row-Term-0 shown hidden-the_row-Term-0 hidden
 returns c = record {
   term = simp (term_folds, scoped_forms, opened_forms);
-  inner = simp (term_folds, scoped_forms, opened_forms);
+  nested = simp (term_folds, scoped_forms, opened_forms);
   truth = refl;
   another_name = simp (term_folds, scoped_forms, opened_forms);
   some = simp (term_folds, scoped_forms);

@@ -15,6 +15,6 @@ unfolding step same_name same_by greatest new_name raised out-Term out the_depth
 returns c = record {
   first = simp (term_folds, scoped_forms, opened_forms);
   third = simp (term_folds, scoped_forms, opened_forms);
-  inner = simp (term_folds, scoped_forms, opened_forms);
+  nested = simp (term_folds, scoped_forms, opened_forms);
   some = refl;
 }

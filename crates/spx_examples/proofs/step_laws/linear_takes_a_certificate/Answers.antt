@@ -1,4 +1,3 @@
-use Rattle.std.proofs.Common.{refl}
 use denote.Hole.Carrier.{out, fold, shown, hidden}
 use denote.Hole.Rolled.{depth}
 use Rattle.spx_term.specs.declared.term.Term.{out-Term}
@@ -18,11 +17,8 @@ use Rattle.spx_examples.proofs.step_laws.linear_takes_a_certificate.Goals as goa
 pub returns : goal.returns
 unfolding step certified opposite_of is_equation opposite form_seen simplified before_literal after_literal of_itself is_comparison linear_form form_of refutation is_never with_multiple joined scaled with_part scaled_part fits same_term same_by out-Term out the_depth depth fold shown-the_row-Term-0 shown hidden-the_row-Term-0 hidden
 returns c = record {
-  refuted = simp term_folds;
-  another_multiplier = simp term_folds;
-  negative = simp term_folds;
-  past_the_end = refl;
-  equation_as_goal = simp term_folds;
-  too_wide = simp term_folds;
-  negative_first = simp term_folds;
+  below = simp term_folds;
+  above = simp term_folds;
+  other_multiplier = simp term_folds;
+  goal_left_out = simp term_folds;
 }

@@ -1,10 +1,9 @@
-use Rattle.std.proofs.Common.{refl}
 use denote.Hole.Carrier.{out, hidden, fold, shown}
 use denote.Hole.Rolled.{depth}
 use Rattle.spx_term.specs.declared.term.Term.{out-Term}
 use Rattle.spx_term.specs.declared.term.Term.TheBlock.{the_depth, shown-the_row-Term-0, hidden-the_row-Term-0}
 use Rattle.spx_term.specs.Equality.{same_term, same_by}
-use Rattle.spx_term.specs.Folding.{folded, simplified, before_literal, of_itself}
+use Rattle.spx_term.specs.Folding.{simplified, before_literal, of_itself}
 use Rattle.spx_term.specs.Intervals.{allowed, bounds, bounded, interval, is_typed, mirrored}
 use Rattle.spx_term.specs.Plain.{closes, is_plain, joined, settled}
 use Rattle.spx_simplify.proofs.Folds.{fold_laws}

@@ -14,8 +14,8 @@ unfolding step same_name same_term same_by raised change rewritten out-Term out 
 returns c = record {
   goal = simp (term_folds, scoped_forms);
   hypothesis = simp (term_folds, scoped_forms);
-  under_a_quantifier = simp (term_folds, scoped_forms);
   right_to_left = simp (term_folds, scoped_forms);
+  not_in_hypothesis = simp (term_folds, scoped_forms);
   no_equation = simp scoped_forms;
-  variable_of_a_quantifier = simp (term_folds, scoped_forms);
+  past_the_end = simp scoped_forms;
 }

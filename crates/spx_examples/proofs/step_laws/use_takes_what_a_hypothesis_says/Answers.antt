@@ -13,5 +13,5 @@ returns c = record {
   equivalence = refl;
   negative = refl;
   disjunction = refl;
-  all = refl;
+  past_the_end = refl;
 }
