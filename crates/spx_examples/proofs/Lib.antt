@@ -80,6 +80,9 @@ mod PartPrograms
 mod LinearMeaning
 mod CompositePlain
 mod CompositeValid
+mod StepFolds
+mod StepSearches
+mod StepRewriting
 mod ScriptFolding
 mod ScriptSorts
 mod ScriptLoop

@@ -34,4 +34,5 @@ pub mod CompositeExamples
 pub mod PartExamples
 pub mod PartPrograms
 pub mod LinearExamples
+pub mod StepExamples
 pub mod ScriptExamples

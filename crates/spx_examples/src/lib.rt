@@ -25,6 +25,7 @@ pub mod run_laws;
 pub mod script_laws;
 pub mod selection_laws;
 pub mod sequent_laws;
+pub mod step_laws;
 pub mod text_laws;
 pub mod variable_rule_laws;
 pub mod weakening_laws;
