@@ -115,7 +115,7 @@ module _ (types : Types) (s : Sequent) (sorted : Sorted types s) where
     all_lead (rule.Rewrite n m) w = leads_at types s (hyp_at s n) (λ h. rewrite_in s m (out-Term h)) (λ h is. rewrite_leads n h is m (out-Term h) (roll-out-Term h))
     all_lead (rule.Linear es) w = certified_leads types s sorted es
     all_lead rule.Elem w = elem_leads
-    all_lead (rule.Div t) w = leads_if types s (may_stand s t) (div_by s (division t)) (λ is. div_leads t w)
+    all_lead (rule.Div t) w = leads_if types s (stands_alone t) (div_by s (division t)) (λ is. div_leads t w)
 
 pub steps_valid : StepIsValid
 steps_valid types s r sorted w = all_lead types s sorted (element_leads types s sorted) (division_leads types s) r w

@@ -655,7 +655,7 @@ module _ (types : Types) where
     all_keep (rule.Rewrite n m) w = keeps_at (hyp_at s n) _ (λ h is. rewrite_in_keeps m (out-Term h) (rolled h (hyp_sort n h is)))
     all_keep (rule.Linear es) w = linear_keeps es
     all_keep rule.Elem w = elem_keeps (spot_of s.goal) refl
-    all_keep (rule.Div t) w = keeps_if (may_stand s t) _ (λ is. div_keeps t w)
+    all_keep (rule.Div t) w = keeps_if (stands_alone t) _ (λ is. div_keeps t w)
 
 pub steps_keep : StepKeepsSorts
 steps_keep types s r sorted w left h = all_keep types s sorted r w left h

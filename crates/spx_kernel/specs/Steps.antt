@@ -256,7 +256,7 @@ step s (rule.Give t) = only_if (is_numeric t && may_stand s t) (give_in s t (out
 step s (rule.Rewrite n m) = at (hyp_at s n) (λ h. rewrite_in s m (out-Term h))
 step s (rule.Linear entries) = certified s entries
 step s rule.Elem = elem_at s (spot_of s.goal)
-step s (rule.Div t) = only_if (may_stand s t) (div_by s (division t))
+step s (rule.Div t) = only_if (stands_alone t) (div_by s (division t))
 
 -- a term is well sorted
 abbrev pub SomeSort : Types → Term → Type 0

@@ -16,7 +16,7 @@ use crate::names::is_boolean;
 use crate::parts::{boxed_fold, hyp_at};
 use crate::quantifier::{give_in, inst_in};
 use crate::rewriting::rewrite_in;
-use crate::scope::may_stand;
+use crate::scope::{may_stand, stands_alone};
 use crate::{Rule, RuleOf, StepFault};
 use spx_simplify::closes;
 use spx_term::{Sequent, Term, is_numeric, same};
@@ -138,7 +138,7 @@ fn give(alloc: Global, sequent: &Sequent, term: &Term) -> Result<Changes, StepFa
 fn div(alloc: Global, sequent: &Sequent, term: &Term) -> Result<Changes, StepFault>
     ensures { Leaves result sequent.now (step sequent.now (RuleOf.Div term.now)) }
 {
-    if !may_stand(alloc, sequent, term)? {
+    if !stands_alone(alloc, term)? {
         return Err(StepFault::DoesNotApply);
     }
     div_of(alloc, term)
