@@ -11,8 +11,8 @@ use spx_core::{Class, Indexing, Selection, Subtype};
 use spx_term::{ArrayType, BinaryOp, Component, FieldName, TernaryOp, UnaryOp};
 use std::alloc::AllocError;
 
-/// A bound of a type, as terms hold it. The bounds of a declared type have at most 64 bits (rule N13). Any other one ends the
-/// work like a want of memory, which no clause ties down.
+/// A bound of a type, as terms hold it. The bounds of a declared type have at most 64 bits (rule N13). With any other one the
+/// work ends as where memory runs out.
 fn bound(number: i128) -> Result<i64, AllocError>
     ensures { IfOk result (λ bound. bound ≡ number) }
 {

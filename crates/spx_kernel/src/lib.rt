@@ -1,7 +1,7 @@
 //! The steps of a proof.
 //!
 //! A step reads a sequent and answers what it changes; `applied` then makes the sequents that are left. A layer above may rely on
-//! this: `step` and `step_on` give the sequents of the definition `step`, or say why there are none, and only want of memory is
+//! this: `step` and `step_on` give the sequents of the definition `step`, or say why there are none. Only when memory runs out is
 //! left open. Where the sequents that are left are valid, so is the one that was given (`step_is_valid`), and where that one is
 //! of Boolean terms, so are they (`step_keeps_sorts`).
 #![tactic(auto)]
