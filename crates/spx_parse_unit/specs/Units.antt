@@ -8,6 +8,7 @@ use Rattle.spx_tree.specs.declared.expression.Name.{Name}
 use Rattle.spx_tree.specs.declared.expression.Expr.{Expr}
 use Rattle.spx_tree.specs.declared.declaration.Decl.{Decl}
 use Rattle.spx_tree.specs.declared.declaration.Decl.TheVariants as decl
+use Rattle.spx_tree.specs.declared.declaration.FieldDecl.{FieldDecl}
 use Rattle.spx_tree.specs.declared.declaration.TypeDef.{TypeDef}
 use Rattle.spx_tree.specs.declared.declaration.TypeDef.TheVariants as defined
 use Rattle.spx_tree.specs.declared.annotation.Exports.TheVariants as exported
@@ -167,12 +168,51 @@ enumeration = do
   expect program k.RightParenthesis
   pure (defined.Enumeration place literals)
 
+-- "array" "(" name ")" "of" name
+unfoldable pub array : Reader TypeDef
+array = do
+  expect program k.Array
+  place ← expect_place program k.LeftParenthesis
+  index ← name program
+  expect program k.RightParenthesis
+  expect program k.Of
+  element ← name program
+  pure (defined.Array place index element)
+
+-- identifiers ":" name ";"
+unfoldable pub field : Reader FieldDecl
+field = do
+  names ← identifiers program
+  expect program k.Colon
+  type_name ← name program
+  expect program k.Semicolon
+  pure (record { names = names; type_name = type_name })
+
+-- {field}
+unfoldable pub more_fields : List FieldDecl → Reader (List FieldDecl)
+more_fields found = more_items (sees program k.Identifier) field found
+
+-- field {field}
+unfoldable pub fields : Reader (List FieldDecl)
+fields = field >>= λ x. more_fields (x ∷ [])
+
+-- "record" fields "end" "record"
+unfoldable pub record_definition : Reader TypeDef
+record_definition = do
+  expect program k.Record
+  fields ← fields
+  place ← expect_place program k.End
+  expect program k.Record
+  pure (defined.Record fields place)
+
 abbrev pub definition_by : ℕ → Option Kind → Reader TypeDef
 definition_by levels (Some k.Range) = integer levels
 definition_by levels (Some k.LeftParenthesis) = enumeration
+definition_by levels (Some k.Array) = array
+definition_by levels (Some k.Record) = record_definition
 definition_by levels _ = refuse
 
--- "range" range | "(" identifiers ")"
+-- "range" range | "(" identifiers ")" | array | record
 unfoldable pub definition : ℕ → Reader TypeDef
 definition levels = λ fs. definition_by levels (peek program fs) fs
 

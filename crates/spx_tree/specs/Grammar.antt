@@ -11,6 +11,7 @@ use Rattle.spx_tree.specs.declared.expression.Name.{Name}
 use Rattle.spx_tree.specs.declared.expression.Expr.{Expr}
 use Rattle.spx_tree.specs.declared.expression.Expr.TheVariants as expr
 use Rattle.spx_tree.specs.declared.declaration.Decl.{Decl}
+use Rattle.spx_tree.specs.declared.declaration.FieldDecl.{FieldDecl}
 use Rattle.spx_tree.specs.declared.declaration.Decl.TheVariants as decl
 use Rattle.spx_tree.specs.declared.declaration.Range.{Range}
 use Rattle.spx_tree.specs.declared.declaration.TypeDef.{TypeDef}
@@ -212,10 +213,16 @@ pub record IsRange (levels : ℕ) (range : Range) : Type 0 where
   pub low : OfLayer layer.Sum levels range.low
   pub high : OfLayer layer.Sum levels range.high
 
--- "range" range (Ada 95 RM 3.5.4) | "(" identifiers ")" (3.5.1)
+-- identifiers ":" name ";" (Ada 95 RM 3.8)
+abbrev pub IsFieldDecl : FieldDecl → Type 0
+IsFieldDecl field = IsIdentifiers field.names
+
+-- "range" range (Ada 95 RM 3.5.4) | "(" identifiers ")" (3.5.1) | "array" "(" name ")" "of" name (3.6) | "record" field {field} "end" "record" (3.8)
 abbrev pub IsDefinition : ℕ → TypeDef → Type 0
 IsDefinition levels (definition.Integer range) = IsRange levels range
 IsDefinition levels (definition.Enumeration place literals) = IsIdentifiers literals
+IsDefinition levels (definition.Array place index element) = ⊤
+IsDefinition levels (definition.Record fields end) = OneOrMore IsFieldDecl fields
 
 -- identifiers ":" name [":=" expression] ";" | identifiers ":" "constant" [name] ":=" expression ";" (Ada 95 RM 3.3.1, 3.3.2)
 -- | "type" identifier "is" definition ";" (3.2.1) | "subtype" identifier "is" name ["range" range] ";" (3.2.2)

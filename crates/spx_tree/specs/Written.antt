@@ -19,6 +19,7 @@ use Rattle.spx_tree.specs.declared.expression.Function.{Function}
 use Rattle.spx_tree.specs.declared.expression.FunctionForm.{FunctionForm}
 use Rattle.spx_tree.specs.declared.expression.FunctionForm.TheVariants as function
 use Rattle.spx_tree.specs.declared.declaration.Decl.{Decl}
+use Rattle.spx_tree.specs.declared.declaration.FieldDecl.{FieldDecl}
 use Rattle.spx_tree.specs.declared.declaration.Decl.TheVariants as decl
 use Rattle.spx_tree.specs.declared.declaration.Range.{Range}
 use Rattle.spx_tree.specs.declared.declaration.TypeDef.{TypeDef}
@@ -194,10 +195,17 @@ written_range range = written_expr program range.low ++ bare program k.DoubleDot
 abbrev pub written_constraint : Range → List Form
 written_constraint range = bare program k.Range ∷ written_range range
 
--- "range" range | "(" identifiers ")"
+-- identifiers ":" name ";"
+abbrev pub written_field : FieldDecl → List Form
+written_field field = written_identifiers program field.names ++ bare program k.Colon ∷ (written_name program field.type_name ++ bare program k.Semicolon ∷ [])
+
+-- "range" range | "(" identifiers ")" | "array" "(" name ")" "of" name | "record" field {field} "end" "record"
 abbrev pub written_definition : TypeDef → List Form
 written_definition (definition.Integer range) = written_constraint range
 written_definition (definition.Enumeration place literals) = placed program k.LeftParenthesis place ∷ (written_identifiers program literals ++ bare program k.RightParenthesis ∷ [])
+written_definition (definition.Array place index element) =
+    bare program k.Array ∷ placed program k.LeftParenthesis place ∷ (written_name program index ++ bare program k.RightParenthesis ∷ bare program k.Of ∷ written_name program element)
+written_definition (definition.Record fields end) = bare program k.Record ∷ (joined (map written_field fields) ++ placed program k.End end ∷ bare program k.Record ∷ [])
 
 -- ":=" expression
 abbrev pub written_initial : Expr → List Form

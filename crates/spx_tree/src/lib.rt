@@ -16,7 +16,7 @@ mod subprogram;
 mod token;
 
 pub use annotation::{Derives, DerivesItem, Exports, Imports, Predicate};
-pub use declaration::{Decl, Range, TypeDef};
+pub use declaration::{Decl, FieldDecl, Range, TypeDef};
 pub use expression::{
     Expr, Function, FunctionForm, Identifier, InfixOp, Layer, MemberOp, Name, PrefixOp,
     copy_identifiers,
