@@ -28,11 +28,7 @@ fn boxed_subtype(alloc: Global, reference: &Reference) -> Result<Boxed<Subtype>,
     Boxed::new(alloc, subtype_of(reference.root.entity))
 }
 
-fn array_form(
-    alloc: Global,
-    index: &Reference,
-    element: &Reference,
-) -> Result<TypeForm, AllocError>
+fn array_form(alloc: Global, index: &Reference, element: &Reference) -> Result<TypeForm, AllocError>
     ensures { IfOk result (λ made. made ≡ form.Array (referred_subtype index.now) (referred_subtype element.now)) }
 {
     let index = boxed_subtype(alloc, index)?;
