@@ -59,7 +59,9 @@ PIECES = tuple(piece.encode('ascii') for piece in (
     'check', 'post', 'assert', '\n--# check X = X;\n', '\n--# assert X = X;\n', '\n--# post X = X;\n', '\n--# check X~ = X;\n', '(X = X -> X = X)',
     'while', 'loop', 'end loop', 'while X > 0 loop', 'end loop;', '   while X > 0 loop X := X - 1; end loop;\n', 'for', 'reverse', 'for I in Integer range 1 .. 5 loop', 'for I in reverse Natural loop',
     '   for I in Integer range 1 .. X loop X := I; end loop;\n', ' I',
-    'exit', 'exit;', ' exit when X > 0;', '   loop exit when X > 5; X := X + 1; end loop;\n', ' if X > 5 then exit; end if;'))
+    'exit', 'exit;', ' exit when X > 0;', '   loop exit when X > 5; X := X + 1; end loop;\n', ' if X > 5 then exit; end if;',
+    'array', 'record', 'of', 'end record', 'array (Integer) of', 'array (Integer) of Boolean', 'record P, Q : Integer; end record', ' P : Integer;', 'end record;',
+    '   type L is array (Natural) of Integer;\n', '   type R is record P : Integer; end record;\n', '   P, Q : R;\n', ' P = Q', '   P := Q;\n', 'P'))
 # Bytes that are apt to end a lexeme, a line or a text.
 EDGES = b'\0\t\n\v\f\r -#0A_\x80\xa0\xff'
 
@@ -72,6 +74,9 @@ OTHER_NAMES = tuple(name.encode('ascii') for name in ('X', 'x', 'A', 'B', 'Y', '
 TYPE_NAMES = ('Small', 'Hue', 'S', 'Low', 'Wide', 'Gear', 'Flag', 'Own')
 LITERAL_NAMES = ('Red', 'Green', 'Blue', 'Up', 'Down', 'On', 'Off', 'First')
 CONSTANT_NAMES = ('C', 'D', 'N', 'Top', 'Two', 'Least')
+# Names of fields, and of variables of array and record types.
+FIELD_NAMES = ('Left', 'Right', 'P', 'X', 'A', 'Inc', 'Red')
+WHOLE_NAMES = ('P', 'Q', 'R', 'L')
 BOUNDS = ((0, 10), (0, 9), (1, 5), (-5, 5), (5, 5), (0, 100), (-7, -2), (0, 2**31 - 1), (0, 2**31), (-2**31, 2**31 - 1), (-2**31 - 1, 0), (-2**31, 0),
           (-2**63, 2**63 - 1), (0, 2**63 - 1), (0, 2**40), (2**31, 2**31 + 5))
 ODD_BOUNDS = ((1, 0), (0, 2**63), (-2**63 - 1, 0), (10, 5), (2**64, 2**65))
@@ -121,12 +126,14 @@ PREDEFINED = (Type('Integer', 'Integer', -2**31, 2**31 - 1), Type('Natural', 'In
 class Declared:
     """What comes before the statements of a procedure: the declarations as they are written, and what they declare.
 
-    A constant has a name, its base type, and its value; that of a named number is none.
+    A constant has a name, its base type, and its value; that of a named number is none. An array or record type, or a subtype
+    of one, has a name and its base type.
     """
     lines: list = field(default_factory=list)
     types: list = field(default_factory=lambda: list(PREDEFINED))
     literals: dict = field(default_factory=dict)
     constants: list = field(default_factory=list)
+    composites: list = field(default_factory=list)
 
     def own_types(self):
         """The types that are declared here."""
@@ -149,9 +156,9 @@ class Declarer:
 
     def run(self):
         """Some declarations."""
-        forms = (self.range_type, self.enumeration, self.subtype, self.constant, self.named_numbers)
+        forms = (self.range_type, self.enumeration, self.subtype, self.constant, self.named_numbers, self.composite)
         for _ in range(self.random.choice((1, 2, 3, 3, 4, 5, 6))):
-            form = self.random.choices(forms, (28, 20, 22, 22, 8))[0]
+            form = self.random.choices(forms, (28, 20, 22, 22, 8, 8))[0]
             self.declared.lines.append(form())
         return self.declared
 
@@ -234,6 +241,39 @@ class Declarer:
         self.declared.constants += [(name, None, value) for name in names]
         return line
 
+    def composite(self):
+        """An array or a record type, or at times a subtype of one."""
+        name = self.name(TYPE_NAMES)
+        if self.declared.composites and self.random.random() < 0.25:
+            parent, base = self.random.choice(self.declared.composites)
+            line = f'subtype {name} is {parent}{" range 0 .. 1" if self.is_odd() else ""}'
+        else:
+            base, line = name, f'type {name} is {self.array() if self.random.random() < 0.5 else self.record()}'
+        self.declared.composites.append((name, base))
+        return line
+
+    def array(self):
+        """An array over a type that mostly has an order, of any type."""
+        ordered = [found.name for found in self.declared.types if found.base != 'Boolean']
+        return f'array ({self.mark() if self.is_odd() else self.random.choice(ordered)}) of {self.mark()}'
+
+    def record(self):
+        """A record of some fields, which mostly have names of their own."""
+        free = self.random.sample(FIELD_NAMES, len(FIELD_NAMES))
+        return f'record {" ".join(self.fields(free) for _ in range(self.random.choice((1, 1, 2, 3))))} end record'
+
+    def fields(self, free):
+        """Fields of one type, with names that are still free, or rarely other ones."""
+        names = [self.random.choice(FIELD_NAMES + ('Integer', 'True')) if self.is_odd() else free.pop() for _ in range(self.random.choice((1, 1, 2)))]
+        return f'{", ".join(names)} : {self.mark()};'
+
+    def mark(self):
+        """The name of a type, mostly of one that is declared here; or rarely another name."""
+        if self.is_odd():
+            return self.random.choice(('X', 'Y', 'P', 'Red', 'Inc', 'Boolean', "Integer'First") + TYPE_NAMES)
+        own = [found.name for found in self.declared.own_types()] + [name for name, _ in self.declared.composites]
+        return self.random.choice(own * 2 + [found.name for found in self.declared.types])
+
     def value(self, name, value, base=None):
         """A value as a static expression of a type, or of any type of numbers; rarely something else."""
         if self.is_odd():
@@ -314,6 +354,12 @@ class Leave:
     condition: str = ''
 
 
+@dataclass
+class Asserted:
+    """An `assert` of a condition."""
+    condition: str
+
+
 def way_out(statement):
     """The condition and the statements of an exit from the loop around a statement, if it is one."""
     if isinstance(statement, Leave):
@@ -340,7 +386,7 @@ def assignments(statements):
         if isinstance(statement, Branch):
             for body in statement.bodies():
                 yield from assignments(body)
-        elif not isinstance(statement, Leave):
+        elif not isinstance(statement, (Leave, Asserted)):
             yield statement
 
 
@@ -371,7 +417,7 @@ def sources_after(statements, sources, out=None):
             changed = {target for target, _ in assignments([statement])}
             ends = [sources_after(body, sources) for body in statement.bodies()]
             sources = joined(ends, conditions, changed)
-        else:
+        elif not isinstance(statement, Asserted):
             target, value = statement
             sources = sources | {target: sources_of(value, sources)}
     return sources
@@ -427,6 +473,7 @@ class Writer:
         self.bases = {}
         self.declared = Declared()
         self.base = 'Integer'
+        self.wholes = {}
         self.ignored = []
         # What a `check` may read, the variables that are both imported and exported, and a condition that is known at the start.
         self.readable = ()
@@ -463,6 +510,7 @@ class Writer:
         statements = self.statements(formals, locals_)
         if formals and self.random.random() < 0.55:
             statements = self.branched(statements, formals, locals_)
+        wholes = self.add_wholes(statements, formals)
         sources = self.sources(formals, locals_, statements)
         inputs = [formal for formal in formals if formal not in sources]
         if inputs and self.random.random() < 0.12:
@@ -470,7 +518,7 @@ class Writer:
             self.insert(statements, (target, self.right_side(formals, target, target)))
         if self.declared.constants and self.random.random() < 0.12:
             self.insert(statements, self.to_a_constant(formals))
-        declared = self.declared.lines + self.declarations(locals_)
+        declared = self.declared.lines + self.declarations(locals_) + wholes
         if self.random.random() < 0.02:
             self.random.shuffle(declared)
         pre = self.precondition_before(formals, sources, statements) if self.random.random() < 0.75 else None
@@ -494,11 +542,54 @@ class Writer:
             statements.append(Branch([(f' {self.random.choice(LOGICAL)} '.join(conditions), bodies[0])], bodies[1]))
         if self.declared.constants and self.random.random() < 0.2:
             self.insert(statements, self.to_a_constant(formals))
+        wholes = self.add_wholes(statements, formals)
         sources = self.sources(formals, locals_, statements)
         pre = self.random.choice((None, None, 'A > 0', 'A in 1 .. 100'))
         self.note(formals, locals_, sources, pre)
         return checked(longer(self.params(formals, sources), self.items(formals, sources), *self.spelled(statements), pre=pre,
-                              post=self.post(formals), declared=self.declared.lines + self.declarations(locals_), name=name))
+                              post=self.post(formals), declared=self.declared.lines + self.declarations(locals_) + wholes, name=name))
+
+    def add_wholes(self, statements, formals):
+        """Declarations of variables of array and record types. At times statements name them, mostly after a loop without an end: as
+        nothing gives them a value, flow says of each other read that it is of an unset variable.
+        """
+        types = self.declared.composites
+        names = self.random.sample(WHOLE_NAMES, self.random.choice((1, 2, 2, 3))) if types and self.random.random() < 0.85 else []
+        self.wholes = {name: self.random.choice(types) for name in names}
+        if names and self.random.random() < 0.6:
+            self.wholes = dict.fromkeys(names, self.random.choice(types))
+        if names and formals and self.random.random() < 0.5:
+            found = [statement for _ in range(self.random.choice((1, 1, 2))) for statement in self.whole_statements(formals)]
+            if self.random.random() < 0.8:
+                statements += [Plain([('', [])]), Asserted(self.whole_condition()), *found]
+            else:
+                self.insert(statements, found[-1])
+        return [f'{name} : {mark}{f" := {self.whole_value(base)}" if self.random.random() < 0.02 else ""}' for name, (mark, base) in self.wholes.items()]
+
+    def whole_statements(self, formals):
+        """At times an assignment to a variable of an array or record type, and mostly an `if` with a comparison of it with another."""
+        name, target = self.random.choice(list(self.wholes)), self.random.choice(formals)
+        base = self.wholes[name][1]
+        found = [(name, self.whole_value(base))] if self.random.random() < 0.6 else []
+        if not found or self.random.random() < 0.9:
+            condition = f'{name} {self.random.choice(("=", "/="))} {self.whole_value(base)}' if self.random.random() < 0.8 else self.whole_condition()
+            found.append(Branch([(condition, [(target, self.right_side(formals, target, target))])]))
+        return found
+
+    def whole_value(self, base):
+        """A variable of an array or record type, mostly of this one; or rarely something else."""
+        fitting = [name for name, (_, own) in self.wholes.items() if own == base]
+        if self.random.random() < 0.03:
+            return self.random.choice(ODD_VALUES + tuple(self.wholes))
+        name = self.random.choice(fitting or list(self.wholes))
+        return self.random.choices((name, f'({name})', f"{self.wholes[name][0]}'({name})"), (80, 8, 12))[0]
+
+    def whole_condition(self):
+        """A comparison of two whole values, or rarely something else over them; at times with `not`."""
+        base = self.random.choice(list(self.wholes.values()))[1]
+        word = self.random.choice(('=', '=', '/=')) if self.random.random() < 0.96 else self.random.choice(RELATIONS + ('+', 'and', 'in', '**'))
+        made = f'{self.whole_value(base)} {word} {self.whole_value(base)}'
+        return f'not ({made})' if self.random.random() < 0.2 else made
 
     def uses(self, local):
         """Statements that set a variable, on one way or on two, and at times once more."""
@@ -605,6 +696,8 @@ class Writer:
         kind, name = self.random.random(), self.random.choice(names)
         if kind < 0.25:
             made = self.random.choice((f'{name} = {name}', f'{name} = {name}', self.known, 'True'))
+        elif kind > 0.95 and self.wholes and self.declared.composites:
+            made = self.whole_condition()
         else:
             made = self.truth(names, self.random.choice((0, 0, 1)))
         if self.random.random() < 0.3:
@@ -942,6 +1035,8 @@ class Writer:
         """One statement as it is written."""
         if isinstance(statement, Leave):
             return f'exit when {statement.condition}' if statement.condition else 'exit'
+        if isinstance(statement, Asserted):
+            return f'{ASSERT}{statement.condition}{END_OF_CHECK}'
         if isinstance(statement, Branch):
             return self.spelled_branch(statement)
         return f'{statement[0]} := {statement[1]}'

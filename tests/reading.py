@@ -326,17 +326,23 @@ class Attribute:
 
 @dataclass(frozen=True, eq=False)
 class Kind:
-    """What types have that match one another: their values are 'numbers', 'truths' or 'literals', and its base range.
+    """What types have that match one another: their values are 'numbers', 'truths', 'literals' or 'composites', and its base range.
 
-    Each declaration of a type makes one, and no two are the same. Truth values have no range.
+    Each declaration of a type makes one, and no two are the same. Truth values and composite ones have no range. A composite
+    type is named as it is declared.
     """
     values: str
     first: Optional[int] = None
     last: Optional[int] = None
+    name: Optional[str] = None
 
     def has(self, value):
         """Whether a value lies in the base range."""
-        return self.values == 'truths' or self.first <= value <= self.last
+        return self.first is None or self.first <= value <= self.last
+
+    def is_ordered(self):
+        """Whether its values have an order: numbers, and literals by their positions."""
+        return self.values in ('numbers', 'literals')
 
 
 # That of numbers, which have at most 128 bits; and those that are declared everywhere.
@@ -349,14 +355,14 @@ DEFAULT = INTEGER
 
 @dataclass(frozen=True)
 class Subtype:
-    """A type of a kind: its values lie between its first and its last one. Those of truth values have no bounds."""
+    """A type of a kind: its values lie between its first and its last one, if it has an order."""
     kind: Kind
     first: Optional[int] = None
     last: Optional[int] = None
 
     def has(self, value):
         """Whether a value lies in the type."""
-        return self.kind is BOOLEAN or self.first <= value <= self.last
+        return self.first is None or self.first <= value <= self.last
 
 
 @dataclass(frozen=True)
@@ -679,8 +685,8 @@ class ArrayDeclaration:
 
 
 @dataclass(frozen=True)
-class FieldDeclaration:
-    """`names : type_mark;` in a record type."""
+class Field:
+    """`names : type_mark;`"""
     names: list
     type_mark: Union[Name, Attribute]
 
@@ -929,30 +935,30 @@ class Parser:
         if self.take_if('range'):
             return RangeDeclaration(name, *self.range())
         if self.take_if('array'):
-            return ArrayDeclaration(name, *self.index_and_element())
+            return self.array(name)
         if self.take_if('record'):
-            return RecordDeclaration(name, self.fields())
+            return self.record(name)
         self.take('(')
         literals = self.identifiers()
         self.take(')')
         return EnumerationDeclaration(name, literals)
 
-    def index_and_element(self):
-        """"(" name ")" "of" name"""
+    def array(self, name):
+        """"(" name ")" "of" name after the word, of the type with this name"""
         self.take('(')
         index = self.name()
         self.take(')')
         self.take('of')
-        return index, self.name()
+        return ArrayDeclaration(name, index, self.name())
 
-    def fields(self):
-        """field {field} "end" "record" """
+    def record(self, name):
+        """field {field} "end" "record" after the word, of the type with this name"""
         fields = [self.field()]
         while self.next_is('identifier'):
             fields.append(self.field())
         self.take('end')
         self.take('record')
-        return fields
+        return RecordDeclaration(name, fields)
 
     def field(self):
         """ids ":" name ";" """
@@ -960,7 +966,7 @@ class Parser:
         self.take(':')
         type_mark = self.name()
         self.take(';')
-        return FieldDeclaration(names, type_mark)
+        return Field(names, type_mark)
 
     def subtype_declaration(self):
         """id "is" name ["range" sum ".." sum]"""
@@ -1434,7 +1440,7 @@ def taken_by(operator):
     if operator.split()[0] in LOGICAL or operator in CONNECTIVES:
         return ('truths',)
     if operator in ('=', '/='):
-        return ('truths', 'numbers', 'literals')
+        return ('truths', 'numbers', 'literals', 'composites')
     return ('numbers', 'literals') if operator in RELATIONS else ('numbers',)
 
 
@@ -1459,7 +1465,7 @@ def typed_prefix(tree):
 
 
 def typed_membership(tree):
-    """Boolean: what is tested has no truth values, and is of the kind of the bounds, or of the type."""
+    """Boolean: what is tested has an order, and is of the kind of the bounds, or of the type."""
     return compared(tree, met_kind(tree, ('numbers', 'literals'), (tree.type_mark,) if tree.type_mark else ()))
 
 
@@ -1488,9 +1494,9 @@ def judged(tree):
 
 @dataclass(frozen=True)
 class Entity:
-    """What a word denotes: a 'type', a 'variable', a 'constant', a 'literal' or a 'subprogram'.
+    """What a word denotes: a 'type', a 'variable', a 'constant', a 'literal', a 'field' or a 'subprogram'.
 
-    All but the last have a type, and constants and literals a value. The type of a named number is that of all numbers. The
+    All but the last two have a type here, and constants and literals a value. The type of a named number is that of all numbers. The
     parameter of a loop has a word of its own.
     """
     sort: str
@@ -1517,8 +1523,8 @@ FUNCTIONS = {'pos': 0, 'val': 0, 'succ': 1, 'pred': -1}
 
 
 def has_attribute(kind, designator):
-    """Whether a type has the attribute: its ends, but for truth values; and functions, if it has literals."""
-    return (designator in ('first', 'last') and kind is not BOOLEAN) or (designator in FUNCTIONS and kind.values == 'literals')
+    """Whether a type has the attribute: its ends, if it has an order; and functions, if it has literals."""
+    return (designator in ('first', 'last') and kind.is_ordered()) or (designator in FUNCTIONS and kind.values == 'literals')
 
 
 class Resolver:
@@ -1573,7 +1579,8 @@ class Resolver:
     def declaration(self, declaration):
         """Each kind of declaration sees the procedure, the formals, and what is declared before it."""
         of_kinds = {VariableDeclaration: self.variables, ConstantDeclaration: self.constants, RangeDeclaration: self.range_type,
-                    EnumerationDeclaration: self.enumeration, SubtypeDeclaration: self.subtype_of}
+                    EnumerationDeclaration: self.enumeration, ArrayDeclaration: self.array, RecordDeclaration: self.record,
+                    SubtypeDeclaration: self.subtype_of}
         of_kinds[type(declaration)](declaration)
 
     def variables(self, declaration):
@@ -1618,15 +1625,41 @@ class Resolver:
         for position, literal in enumerate(declaration.literals):
             self.end([literal], Entity('literal', subtype, position))
 
+    def array(self, declaration):
+        """A type of its own kind. N10: its index is of a type that has an order. Its elements may be of any type."""
+        self.begin([declaration.name])
+        index = self.subtype(declaration.index)
+        require('N10', declaration.index.place, index.kind.is_ordered())
+        self.subtype(declaration.element)
+        self.end_composite(declaration.name)
+
+    def record(self, declaration):
+        """A type of its own kind. Its fields are in a scope of their own, inside that of the procedure, where its name is hidden."""
+        self.begin([declaration.name])
+        around, fields = self.scope, {}
+        for field in declaration.fields:
+            for name in field.names:
+                require('N2', name.place, name.word() not in EVERYWHERE and name.word() not in fields)
+                fields[name.word()] = None
+            self.scope = around | fields
+            self.subtype(field.type_mark)
+            fields |= {name.word(): Entity('field') for name in field.names}
+        self.scope = around
+        self.end_composite(declaration.name)
+
+    def end_composite(self, name):
+        """From the end of its declaration on, the name denotes a type of its own kind, whose values have parts."""
+        self.end([name], Entity('type', Subtype(Kind('composites', name=name.text))))
+
     def subtype_of(self, declaration):
-        """A type of the same kind, with the same bounds where it has none itself. N10: Boolean types have none.
+        """A type of the same kind, with the same bounds where it has none itself. N10: only a type that has an order has some.
 
         N13: the bounds are in order, and lie in the type.
         """
         self.begin([declaration.name])
         subtype = self.subtype(declaration.parent)
         if declaration.low:
-            require('N10', declaration.parent.place, subtype.kind is not BOOLEAN)
+            require('N10', declaration.parent.place, subtype.kind.is_ordered())
             low, high = self.bound(declaration.low, subtype), self.bound(declaration.high, subtype)
             require('N13', low.place, subtype.first <= low.value <= high.value <= subtype.last)
             subtype = Subtype(subtype.kind, low.value, high.value)
@@ -1742,7 +1775,7 @@ class Resolver:
         """
         self.begin([tree.name])
         subtype = self.subtype(tree.type_mark)
-        require('N10', tree.type_mark.place, subtype.kind is not BOOLEAN)
+        require('N10', tree.type_mark.place, subtype.kind.is_ordered())
         low, high = [bound and whole(matching(self.expression(bound), subtype.kind)) for bound in (tree.low, tree.high)]
         del self.spelled[tree.name.word()]
         word = f'{tree.name.word()} {len(self.parameters) + 1}'
@@ -1764,7 +1797,7 @@ class Resolver:
     def selector(self, tree):
         """N10: a selector is of a type that has an order."""
         found = meeting_nothing(self.expression(tree))
-        require('N10', found.place, found.kind is not BOOLEAN)
+        require('N10', found.place, found.kind.is_ordered())
         return whole(found)
 
     def choices(self, tree, kind):
@@ -1833,7 +1866,7 @@ class Resolver:
         else:
             operand = matching(operand, kind)
         bounds = kind if designator else subtype
-        is_free = designator == 'pos' or kind is BOOLEAN
+        is_free = designator == 'pos' or not kind.is_ordered()
         tree = replace(tree, operand=operand, more=FUNCTIONS[designator] if designator else 0,
                        low=None if is_free else bounds.first, high=None if is_free else bounds.last,
                        kind=INTEGER if designator == 'pos' else kind)
@@ -1875,12 +1908,12 @@ class Resolver:
         return OnEntry(named.word, named.place, named.kind)
 
     def membership(self, tree):
-        """A membership test over what its names denote. N10: its type is not Boolean."""
+        """A membership test over what its names denote. N10: its type has an order."""
         tested = self.expression(tree.tested)
         if not tree.type_mark:
             return replace(tree, tested=tested, low=self.expression(tree.low), high=self.expression(tree.high))
         subtype = self.subtype(tree.type_mark)
-        require('N10', tree.type_mark.place, subtype.kind is not BOOLEAN)
+        require('N10', tree.type_mark.place, subtype.kind.is_ordered())
         return replace(tree, tested=tested, type_mark=subtype)
 
     def attribute(self, tree):
@@ -2321,16 +2354,16 @@ class TruthTerm:
 
 @dataclass(frozen=True, eq=False)
 class EntryTerm:
-    """The value of a variable on entry, also of one that has none: a truth value, or a number."""
+    """The value of a variable on entry, also of one that has none; and whether it is a number."""
     word: str
-    is_truth: bool
+    is_number: bool
 
 
 @dataclass(frozen=True, eq=False)
 class LaterTerm:
-    """The value that a variable has at a cut, where it may be another one than on entry: a truth value, or a number."""
+    """The value that a variable has at a cut, where it may be another one than on entry; and whether it is a number."""
     word: str
-    is_truth: bool
+    is_number: bool
 
 
 @dataclass(frozen=True, eq=False)
@@ -2338,6 +2371,13 @@ class PrefixTerm:
     """`operator operand`, over a term: a minus, `abs` or `not`."""
     operator: str
     operand: object
+
+
+@dataclass(frozen=True, eq=False)
+class InTerm:
+    """`operand in name`: a composite value and all its parts lie in the bounds of their types, over a term."""
+    operand: object
+    name: str
 
 
 @dataclass(frozen=True, eq=False)
@@ -2349,7 +2389,7 @@ class InfixTerm:
 
 
 number, truth, entry, later = cache(NumberTerm), cache(TruthTerm), cache(EntryTerm), cache(LaterTerm)
-prefix, infix = cache(PrefixTerm), cache(InfixTerm)
+prefix, in_type, infix = cache(PrefixTerm), cache(InTerm), cache(InfixTerm)
 
 
 @dataclass(frozen=True)
@@ -2407,7 +2447,7 @@ def term_of(expression, values):
     if isinstance(expression, Variable):
         return values[expression.word]
     if isinstance(expression, OnEntry):
-        return entry(expression.word, expression.kind is BOOLEAN)
+        return entry(expression.word, expression.kind.is_ordered())
     parts = [term_of(part, values) for part in parts_of(expression)]
     if isinstance(expression, Operation):
         return infix(IN_TERMS.get(expression.operator, expression.operator), *parts)
@@ -2451,8 +2491,14 @@ def between(term, low, high):
 
 
 def bounds_of(subtype, term):
-    """The term lies in a type, or in a base range, which says nothing of a truth value."""
+    """The term lies in a type, or in a base range, which says nothing of a truth value or a composite one."""
     return () if subtype.first is None else between(term, number(subtype.first), number(subtype.last))
+
+
+def facts_of_type(subtype, term):
+    """What is known of a term by its type: of a composite one, by the name of its first subtype, that it lies in it."""
+    kind = subtype.kind
+    return (in_type(term, kind.name),) if kind.values == 'composites' else bounds_of(subtype, term)
 
 
 def with_facts(facts, more):
@@ -2462,7 +2508,7 @@ def with_facts(facts, more):
 
 def entry_values(procedure):
     """At the start each variable has its initial value, or else its value on entry."""
-    on_entry = {word: entry(word, procedure.subtypes[word].kind is BOOLEAN) for word in procedure.words()}
+    on_entry = {word: entry(word, procedure.subtypes[word].kind.is_ordered()) for word in procedure.words()}
     return on_entry | {word: literal(value) for word, value in procedure.initial.items()}
 
 
@@ -2472,7 +2518,7 @@ def first_facts(procedure):
     facts = ()
     for formal in procedure.formals:
         if formal.word in imported:
-            facts = with_facts(facts, bounds_of(formal.subtype, values[formal.word]))
+            facts = with_facts(facts, facts_of_type(formal.subtype, values[formal.word]))
     return with_facts(facts, facts_of(procedure.pre.condition, values)) if procedure.pre else facts
 
 
@@ -2513,7 +2559,7 @@ def own_checks(expression, values):
 
 
 def checks_of_assignment(subtype, value, values):
-    """The checks of the right side, and that it lies in the type of the target, which a truth value always does."""
+    """The checks of the right side, and that it lies in the type of the target, where that has an order."""
     goals = bounds_of(subtype, term_of(value, values))
     return checks_of(value, values) + ([Check('range', value.place, goals)] if goals else [])
 
@@ -2536,7 +2582,7 @@ def cut_values(procedure):
     """After a cut an export or a local has some value; a formal that is no export has that on entry."""
     exported = Relation(procedure.items()).exported
     fixed = {formal.word for formal in procedure.formals} - exported
-    return {word: (entry if word in fixed else later)(word, procedure.subtypes[word].kind is BOOLEAN) for word in procedure.words()}
+    return {word: (entry if word in fixed else later)(word, procedure.subtypes[word].kind.is_ordered()) for word in procedure.words()}
 
 
 def names_of_bounds(loop):
@@ -2551,10 +2597,10 @@ def cut_facts(procedure, counted):
     relation, values, on_entry = Relation(procedure.items()), cut_values(procedure), entry_values(procedure)
     facts = ()
     for word in procedure.words():
-        facts = with_facts(facts, bounds_of(procedure.subtypes[word], values[word]))
+        facts = with_facts(facts, facts_of_type(procedure.subtypes[word], values[word]))
     for formal in procedure.formals:
         if formal.word in relation.imported & relation.exported:
-            facts = with_facts(facts, bounds_of(formal.subtype, on_entry[formal.word]))
+            facts = with_facts(facts, facts_of_type(formal.subtype, on_entry[formal.word]))
     facts = with_facts(facts, counted)
     return with_facts(facts, facts_of(procedure.pre.condition, on_entry)) if procedure.pre else facts
 
@@ -2628,7 +2674,7 @@ class Walk:
         """From a cut within these loops, where this is known, along statements."""
         values = cut_values(self.procedure)
         for loop in within:
-            values |= {word: later(word, False) for word in (loop.word, *names_of_bounds(loop))}
+            values |= {word: later(word, True) for word in (loop.word, *names_of_bounds(loop))}
         counted = sum((self.count_facts(loop, values) for loop in within), ())
         self.go(statements, with_facts(cut_facts(self.procedure, counted), known(values)), values)
 
@@ -2781,7 +2827,7 @@ def require_few_paths(procedure):
 @cache
 def size_of(term):
     """The nodes of a term, where one that is there twice counts twice. Each term is counted once."""
-    if isinstance(term, PrefixTerm):
+    if isinstance(term, (PrefixTerm, InTerm)):
         return size_of(term.operand) + 1
     if isinstance(term, InfixTerm):
         return size_of(term.left) + size_of(term.right) + 1
@@ -2831,7 +2877,7 @@ def is_of_numbers(comparison):
     """Whether a comparison is one of numbers."""
     left = comparison.left
     if isinstance(left, (EntryTerm, LaterTerm)):
-        return not left.is_truth
+        return left.is_number
     if isinstance(left, PrefixTerm):
         return left.operator != 'not'
     is_logical = isinstance(left, InfixTerm) and (left.operator in RELATIONS or left.operator in OF_TRUTHS)
@@ -3112,6 +3158,8 @@ class Printer:
         if isinstance(term, InfixTerm):
             left, right = [self.operand(side, term.operator in OF_NUMBERS) for side in (term.left, term.right)]
             return f'{left} {term.operator} {right}'
+        if isinstance(term, InTerm):
+            return f'{self.operand(term.operand, False)} in {term.name}'
         if isinstance(term, NumberTerm):
             return str(term.value)
         if isinstance(term, TruthTerm):
@@ -3120,7 +3168,7 @@ class Printer:
 
     def operand(self, term, is_of_numbers):
         """An operation has parentheses. So has a number below 0, where an operation on numbers takes it."""
-        is_operation = isinstance(term, (PrefixTerm, InfixTerm))
+        is_operation = isinstance(term, (PrefixTerm, InTerm, InfixTerm))
         is_negative = is_of_numbers and isinstance(term, NumberTerm) and term.value < 0
         return f'({self.text(term)})' if is_operation or is_negative else self.text(term)
 
@@ -3264,12 +3312,15 @@ class Run:
         if isinstance(expression, (Variable, OnEntry)):
             return self.seen(expression.word, self.store if isinstance(expression, Variable) else self.on_entry)
         value = computed_value(expression, [self.stated(part) for part in parts_of(expression)])
-        if is_number(value) and not fits(value):
+        if isinstance(value, int) and not fits(value):
             raise TooManyBits
         return value
 
     def seen(self, word, store):
-        """In an annotation a variable that is unset counts as the first value of its type."""
+        """In an annotation a variable that is unset counts as the first value of its type.
+
+        No composite variable is ever set, so that one value stands for the first one of each of their types.
+        """
         subtype = self.procedure.subtypes[word]
         return store.get(word, False if subtype.kind is BOOLEAN else subtype.first)
 

@@ -5205,6 +5205,176 @@ def breaches_of_declarations():
             yield refused(f'{name}_before_{other}.adb', types_with(slip, parts), rule)
 
 
+# ---------------------------------------------------------------- array and record types
+
+LIST = 'type List is array (Small) of Integer'
+PAIR = 'type Pair is record Left, Right : Integer; end record'
+PARTED = (f'{SMALL}; {LIST}; {PAIR}; type Other is array (Small) of Integer; type Like is record Left, Right : Integer; end record; '
+          'subtype Same is Pair; L, K : List; P, Q : Pair; S : Same; O : Other; R : Like')
+
+
+def parted(*statements):
+    """The text of a procedure with variables of array and record types, and these statements first."""
+    return declaring(PARTED, *statements, 'if B then X := A; end if')
+
+
+def array_types():
+    """`type T is array (I) of E`: T comes first, then I, and then E. T is hidden in both."""
+    for name, declared in {
+            'a_type': f'{SMALL}; {LIST}; V, W : List', 'integer': 'type T is array (Integer) of Boolean', 'positive': 'type T is array (Positive) of Natural; V : T',
+            'literals': f'{HUE}; type T is array (Hue) of Hue', 'a_subtype_of_literals': f'{WARM}; type T is array (Warm) of Integer',
+            'a_type_and_arrays': f'{SMALL}; {LIST}; type T is array (Small) of List', 'a_type_and_records': f'{PAIR}; type T is array (Natural) of Pair; V : T',
+            'a_type_and_truth_values': 'subtype Flag is Boolean; type T is array (Integer) of Flag', 'a_type_of_other_case': 'TYPE t IS ARRAY (natural) OF INTEGER; V : T'}.items():
+        yield declared_well(f'array_by_{name}.adb', declared)
+    for name, (rule, declared) in {
+            'boolean': ('N10', 'type T is array (@Boolean) of Integer'), 'a_boolean_subtype': ('N10', 'subtype S is Boolean; type T is array (@S) of Integer'),
+            'an_array': ('N10', f'{SMALL}; {LIST}; type T is array (@List) of Integer'), 'a_record': ('N10', f'{PAIR}; type T is array (@Pair) of Integer'),
+            'a_subtype_of_a_record': ('N10', f'{PAIR}; subtype S is Pair; type T is array (@S) of Integer'),
+            'a_variable': ('N3', 'type T is array (@A) of Integer'), 'a_literal': ('N3', f'{HUE}; type T is array (@Red) of Integer'),
+            'the_procedure': ('N3', 'type T is array (@Inc) of Integer'), 'an_attribute': ('N3', "type T is array (@Integer'Last) of Integer"),
+            'no_name': ('N1', 'type T is array (@Y) of Integer'), 'itself': ('N1', 'type T is array (@T) of Integer'),
+            'a_later_type': ('N1', 'type T is array (@U) of Integer; type U is range 1 .. 5')}.items():
+        yield refused(f'array_by_{name}.adb', declaring(declared), rule)
+    for name, (rule, declared) in {
+            'a_variable': ('N3', 'type T is array (Integer) of @A'), 'a_constant': ('N3', 'C : constant := 5; type T is array (Integer) of @C'),
+            'an_attribute': ('N3', "type T is array (Integer) of @Integer'First"), 'no_name': ('N1', 'type T is array (Integer) of @Y'),
+            'itself': ('N1', 'type T is array (Integer) of @T'), 'the_hidden_procedure': ('N1', 'type Inc is array (Integer) of @Inc'),
+            # the name comes first, then the index
+            'no_name_by_boolean': ('N10', 'type T is array (@Boolean) of Y'), 'no_name_by_no_name': ('N1', 'type T is array (@Y) of Z'),
+            'no_name_for_a_formal': ('N2', 'type @A is array (Boolean) of Y'), 'integer_for_integer': ('N2', 'type @Integer is array (Natural) of Boolean'),
+            'integer_for_a_type': ('N2', f'{SMALL}; type @Small is array (Natural) of Integer')}.items():
+        yield refused(f'array_of_{name}.adb', declaring(declared), rule)
+
+
+def record_types():
+    """`type T is record P, Q : E; end record`: T comes first, then the fields in order, of each its names and then its type.
+
+    Fields are in a scope of their own, inside that of the procedure. T is hidden there, and P and Q are hidden in E.
+    """
+    for name, declared in {
+            'one_field': 'type R is record P : Integer; end record', 'several_fields': 'type R is record P, Q : Integer; F : Boolean; N : Natural; end record; V, W : R',
+            'a_record': f'{PAIR}; type R is record P : Pair; end record', 'an_array': f'{SMALL}; {LIST}; type R is record P, Q : List; end record',
+            'a_field_named_as_itself': 'type R is record R : Integer; end record; V : R', 'a_field_named_as_the_procedure': 'type R is record Inc : Integer; end record',
+            'a_field_named_as_a_formal': 'type R is record A : Integer; end record', 'a_field_named_as_a_local': 'V : Integer; type R is record V : Boolean; end record; W : R',
+            'a_field_named_as_a_type': f'{SMALL}; type R is record Small : Integer; end record; V : Small', 'a_field_named_as_a_literal': f'{HUE}; type R is record Red : Hue; end record',
+            'fields_named_as_those_of_another': f'{PAIR}; type R is record Left : Boolean; Right : Pair; end record',
+            'a_field_named_as_a_later_local': 'type R is record P : Integer; end record; P : R', 'a_field_named_as_a_later_type': 'type R is record T : Integer; end record; type T is range 1 .. 5; V : T',
+            'fields_in_other_cases': 'TYPE r IS RECORD p : INTEGER; END RECORD; V : R', 'fields_on_several_lines': 'type R is record -- fields\nP,\nQ\n: Integer\n;\nend\nrecord'}.items():
+        yield declared_well(f'record_of_{name}.adb', declared)
+    for name, (rule, fields) in {
+            'a_field_twice': ('N2', 'P, @P : Integer;'), 'a_field_twice_in_other_cases': ('N2', 'P, @p : Integer;'), 'a_field_again': ('N2', 'P : Integer; Q, @P : Boolean;'),
+            'a_field_again_of_one_type': ('N2', 'P : Integer; @P : Integer;'), 'a_field_in_another_case': ('N2', 'P : Integer; @boolean : Integer;'),
+            **{f'a_field_{word.lower()}': ('N2', f'P : Integer; @{word} : Integer;') for word in ('Integer', 'Natural', 'Positive', 'Boolean', 'True', 'False')},
+            'itself': ('N1', 'P : @R;'), 'its_own_field': ('N1', 'P : @P;'), 'its_other_field': ('N1', 'P, Q : @P;'), 'its_hidden_name_as_a_field': ('N1', 'R : @R;'),
+            'no_name': ('N1', 'P : @Y;'), 'no_name_after_a_field': ('N1', 'P : Integer; Q : @Y;'), 'a_later_field': ('N1', 'P : @Q; Q : Integer;'), 'a_later_type': ('N1', 'P : @T;'),
+            'an_earlier_field': ('N3', 'P : Integer; Q : @P;'), 'an_earlier_field_of_its_name': ('N3', 'R : Integer; Q : @R;'), 'a_variable': ('N3', 'P : @A;'),
+            'the_procedure': ('N3', 'P : @Inc;'), 'a_truth_value': ('N3', 'P : @True;'), 'an_attribute': ('N3', "P : @Integer'First;"),
+            # the names of fields come before their type, and all of them before the next fields
+            'a_field_twice_and_no_name': ('N2', 'P, @P : Y;'), 'no_name_and_a_field_twice': ('N1', 'P : @Y; P : Integer;')}.items():
+        yield refused(f'record_of_{name}.adb', declaring(f'type R is record {fields} end record; type T is range 1 .. 5'), rule)
+    for name, (rule, declared) in {
+            'a_hidden_type': ('N3', f'{SMALL}; type R is record Small : Integer; P : @Small; end record'),
+            'a_hidden_type_in_its_own_field': ('N1', f'{SMALL}; type R is record Small : @Small; end record'),
+            'a_local_for_a_type': ('N3', 'V : Integer; type R is record P : @V; end record'), 'a_field_of_another': ('N1', f'{PAIR}; type R is record P : @Left; end record'),
+            'a_formal': ('N2', 'type @A is record P : Y; end record'), 'boolean': ('N2', 'type @Boolean is record P : Integer; end record'),
+            'another': ('N2', f'{PAIR}; type @Pair is record P : Integer; end record'), 'a_field_for_a_local': ('N1', f'{PAIR}; V : @Left')}.items():
+        yield refused(f'record_for_{name}.adb', declaring(declared), rule)
+    yield refused('field_for_a_value.adb', parted('X := @Left'), 'N1')
+    yield refused('field_for_a_target.adb', parted('@Left := X'), 'N1')
+
+
+def uses_of_composites():
+    """Where a composite type or value may be: in declarations, `=` and `/=`, assignments and qualifications. In no other place."""
+    for name, declared in {
+            'an_array': f'{SMALL}; {LIST}; subtype S is List; V : S', 'a_record': f'{PAIR}; subtype S is Pair; V, W : S',
+            'a_subtype_of_a_record': f'{PAIR}; subtype S is Pair; subtype T is S; V : T'}.items():
+        yield declared_well(f'subtype_of_{name}.adb', declared)
+    for name, (rule, declared) in {
+            'range_of_an_array': ('N10', f'{SMALL}; {LIST}; subtype S is @List range 1 .. 5'), 'range_of_a_record': ('N10', f'{PAIR}; subtype S is @Pair range 1 .. Y'),
+            'constant': ('N11', f'{PAIR}; P : Pair; C : constant Pair := @P'), 'constant_of_a_subtype': ('N11', f'{PAIR}; subtype S is Pair; P : Pair; C : constant S := @P'),
+            'constant_of_a_number': ('N10', f'{PAIR}; C : constant Pair := @1'), 'constant_of_an_array': ('N10', f'{SMALL}; {LIST}; L : List; {PAIR}; C : constant Pair := @L'),
+            'constant_of_itself': ('N1', f'{PAIR}; C : constant Pair := @C'), 'named_number': ('N10', f'{PAIR}; P : Pair; C : constant := @P'),
+            'integer_constant': ('N10', f'{PAIR}; P : Pair; C : constant Integer := @P'), 'initial_value': ('N11', f'{PAIR}; P : Pair; Q : Pair := @P'),
+            'initial_value_in_parentheses': ('N11', f'{PAIR}; P : Pair; Q : Pair := @(P)'), 'initial_value_of_a_number': ('N10', f'{PAIR}; P : Pair := @5'),
+            'initial_value_of_a_literal': ('N10', f'{PAIR}; P : Pair := @True'), 'initial_number': ('N10', f'{PAIR}; P : Pair; V : Integer := @P'),
+            'bound_of_a_type': ('N10', f'{PAIR}; P : Pair; type T is range 1 .. @P'), 'bound_of_a_subtype': ('N10', f'{PAIR}; P : Pair; subtype S is Integer range @P .. 5')}.items():
+        yield refused(f'composite_{name}.adb', declaring(declared), rule)
+    for operator in ('<', '<=', '>', '>=', '+', '-', '*', '/', 'mod', 'rem', '**', 'and', 'or', 'xor', 'and then', 'or else'):
+        named = operator.replace(' ', '_').translate(str.maketrans({'<': 'L', '>': 'G', '=': 'E', '+': 'plus', '-': 'minus', '*': 'times', '/': 'by'}))
+        yield refused(f'composites_and_{named}.adb', parted(f'if P @{operator} Q then X := 0; end if'), 'N10')
+    for name, condition in {
+            'equality_of_two_types': 'P @= L', 'inequality_of_two_types': 'P @/= L', 'equality_of_like_arrays': 'L @= O', 'equality_of_like_records': 'P @= R',
+            'equality_with_a_number': 'P @= 1', 'equality_of_a_number': '1 @/= P', 'equality_with_an_integer': 'P @= A', 'equality_with_a_truth_value': 'B @= P',
+            'not': '@not P', 'minus': '@-P = Q', 'plus': '@+P = Q', 'abs': '@abs P = Q', 'test_in_its_type': 'P in @Pair', 'test_not_in_its_type': 'L not in @List',
+            'test_in_its_subtype': 'P in @Same', 'test_of_a_number': 'A in @Pair', 'test_in_numbers': 'P @in Small', 'test_not_in_a_range': 'P @not in Q .. Q', 'test_in_a_range': 'A @in P .. Q',
+            'condition': '@P', 'conversion_to_a_record': '@Pair (P) = Q', 'conversion_to_an_array': '@List (K) = L', 'conversion_of_a_record': 'Small (@P) = 1',
+            'qualification_of_an_array': "Pair'(@L) = P", 'qualification_of_a_like_record': "Pair'(@R) = P", 'qualification_of_a_number': "Pair'(@1) = P",
+            'qualification_for_integer': "Integer'(@P) = 1"}.items():
+        yield refused(f'composite_{name}.adb', parted(f'if {condition} then X := 0; end if'), 'N10')
+    for name, statement in {
+            'of_a_record_to_an_array': 'L := @P', 'of_a_like_array': 'L := @O', 'of_a_like_record': 'P := @R', 'of_a_number': 'P := @1', 'of_a_truth_value': 'P := @True',
+            'of_an_integer': 'P := @A', 'of_a_comparison': 'P := @(P = Q)', 'to_an_integer': 'X := @P'}.items():
+        yield refused(f'composite_assignment_{name}.adb', parted(statement), 'N10')
+    for name, (rule, statement) in {
+            'first': ('N3', "X := @Pair'First"), 'last': ('N3', "X := @List'Last"), 'pos': ('N3', "X := @Pair'Pos (P)"), 'succ': ('N3', "P := @Same'Succ (P)"),
+            'selector': ('N10', 'case @P is when others => null; end case'), 'selector_in_parentheses': ('N10', 'case @(L) is when 1 => null; when others => null; end case'),
+            'choice': ('N10', 'case X is when @P => null; when others => null; end case'), 'loop': ('N10', 'for I in @Pair loop null; end loop'),
+            'loop_over_a_range': ('N10', 'for I in @List range 1 .. 5 loop null; end loop'), 'bound_of_a_loop': ('N10', 'for I in Integer range 1 .. @P loop null; end loop'),
+            'exit': ('N10', 'loop exit when @P; end loop'), 'while': ('N10', 'while @L loop null; end loop'), 'check': ('N10', '--# check @P'), 'implication': ('N10', '--# check P @-> Q'),
+            'equivalence': ('N10', '--# check P @<-> Q'), 'value_on_entry': ('N18', '--# check @P~ = P'), 'type_for_a_value': ('N3', 'P := @Pair'), 'target': ('N3', '@Pair := P')}.items():
+        yield refused(f'composite_{name}.adb', parted(statement), rule)
+
+
+def flow_of_composites():
+    """A whole value is read and assigned as others are. Nothing gives one to a variable before it is read."""
+    for name, text, *findings in (
+            ('assignment', parted('@P := @Q'), 'F3', 'F4 unset: Q'), ('assignment_of_itself', parted('@L := @L'), 'F3', 'F4 unset: L'),
+            ('assignment_to_a_subtype', parted('@S := @P'), 'F3', 'F4 unset: P'), ('assignment_of_a_subtype', parted('@P := (@S)'), 'F3', 'F4 unset: S'),
+            ('qualification', parted("@P := Pair'(@Q)"), 'F3', 'F4 unset: Q'), ('equality', parted('if @P = @Q then X := 0; end if'), 'F4 unset: P', 'F4 unset: Q'),
+            ('inequality_of_arrays', parted('if @L /= @K then X := 0; end if'), 'F4 unset: L', 'F4 unset: K'),
+            ('equality_of_a_subtype', parted('if @P = @S then X := 0; end if'), 'F4 unset: P', 'F4 unset: S'),
+            ('equality_after_an_assignment', parted('P := @Q', 'if P = @S then X := 0; end if'), 'F4 unset: Q', 'F4 unset: S'),
+            ('check', parted('--# check @P = @Q'), 'F4 unset: P', 'F4 unset: Q'), ('truth_value_of_an_equality', parted('@F := @P = @Q').replace('R : Like', 'R : Like; F : Boolean'), 'F3', 'F4 unset: P', 'F4 unset: Q')):
+        yield refused(f'flow_of_a_composite_{name}.adb', text, *findings)
+
+
+# A text with statements that are never reached, since a loop without an exit comes before them. So flow has nothing to say of their reads.
+ENDLESS = 'loop null; end loop'
+
+
+def conditions_of_composites():
+    """After a cut each variable lies in its type, by the name of its first subtype. An assignment of a whole value is not checked.
+
+    `not` of an equality is no inequality, as it is for numbers.
+    """
+    pairs = f'{PAIR}; subtype Same is Pair; P : Pair; Q : Same'
+    facts = [*lies('X'), 'P in Pair', 'Q in Pair', *lies('X~')]
+    yield listed('composite_in_a_list.adb', longer(X, 'X from X', ENDLESS, '--# assert P = Q', 'P := Q', '--# @check P = Q', 'if P = Q then X := @0; end if', declared=[pairs]),
+                 (1, 'check', [*facts, 'P = Q'], ['Q = Q']), (2, 'range', [*facts, 'P = Q', 'Q = Q'], lies('0')))
+    yield listed('array_in_a_list.adb', longer(X, 'X from X', '--# @assert X = X', 'if X > 5 then X := @1; end if', declared=[f'{SMALL}; type LIST is array (Small) of Integer; L, K : list; V : Small']),
+                 (1, 'assert', lies('X~'), ['X~ = X~']), (2, 'range', [*lies('X'), 'L in LIST', 'K in LIST', *lies('V', 0, 10), *lies('X~'), 'X = X', 'X > 5'], lies('1')))
+    yield listed('composites_in_terms_of_a_list.adb',
+                 longer(X, 'X from X', ENDLESS, '--# assert not (P = Q) and P /= Q', "P := Same'(P)", '--# @check (P = Q) or not (P = Q)', 'if P = Q then X := @0; end if',
+                        declared=[pairs]), (1, 'check', [*facts, 'not (P = Q)', 'P /= Q'], ['(P = Q) or (not (P = Q))']),
+                 (2, 'range', [*facts, 'not (P = Q)', 'P /= Q', '(P = Q) or (not (P = Q))', 'P = Q'], lies('0')))
+    for name, known, condition, is_left in (
+            ('equality_of_one_value', 'True', 'P = P and not (P /= P)', False), ('equality', 'P = Q', 'P = Q', False), ('inequality', 'P /= Q', 'P /= Q', False),
+            ('negated_equality', 'not (P = Q)', 'not (P = Q)', False), ('equality_or_not', 'True', 'P = Q or else not (P = Q)', False),
+            ('inequality_by_a_negation', 'not (P = Q)', 'P /= Q', True), ('negation_by_an_inequality', 'P /= Q', 'not (P = Q)', True), ('equality_in_the_other_order', 'P = Q', 'Q = P', True)):
+        text = longer(X, 'X from X', ENDLESS, f'--# assert {known}', f'--# {"@" if is_left else ""}check {condition}', declared=[pairs])
+        yield examined(f'composite_{name}_of_a_check.adb', text, ('Inc', 1, *([(1, 'check')] if is_left else [])))
+
+
+def runs_of_composites():
+    """A run reads no composite value, since none is set. In an annotation each variable counts as the first value of its type."""
+    declared = [f'{SMALL}; {LIST}; {PAIR}; L, K : List; P, Q : Pair']
+    yield faulted('run_of_a_whole_assignment.adb', longer(OUT_X, 'X from', 'X := 1', 'P := @Q', declared=declared), '', 'unset')
+    yield faulted('run_of_an_equality_of_arrays.adb', longer(OUT_X, 'X from', 'X := 1', 'if @L = K then X := 2; end if', declared=declared), '', 'unset')
+    yield ended('run_beside_composites.adb', longer(OUT_X, 'X from', 'X := 1', 'if X > 1 then P := Q; end if', declared=declared), '', 'X = 1')
+    yield ended('unset_composites_in_annotations.adb', longer(OUT_X, 'X from', '--# check P = Q and L = K and not (P /= Q)', 'X := 1', declared=declared), '', 'X = 1')
+    yield faulted('unset_composites_that_differ.adb', longer(OUT_X, 'X from', '--# @check L /= K', 'X := 1', declared=declared), '', 'check')
+
+
 # ---------------------------------------------------------------- functions of types
 
 MAPPED = (f'{SMALL}; {LONG}; {WARM}; type Gear is (Up, Down); subtype Low is Small range 1 .. 5; subtype Flag is Boolean; '
@@ -7290,8 +7460,9 @@ GROUPS = (form, relations, simplifier, numbers, places, words, layout, comments,
           declared_constants, assigned_constants, matching_types, enumerations, values_of_declarations, conditions_of_types,
           powers_of_types, universal_powers_of_right_sides, universal_powers_beside_operands, universal_powers_in_relations,
           universal_powers_in_tests, universal_powers_of_bounds, universal_powers_that_meet_nothing, universal_powers_that_should_be_static,
-          universal_powers_in_annotations, checks_of_universal_powers, conditions_of_enumerations, flow_of_types, levels_of_declarations, syntax_of_declarations, syntax_of_arrays, syntax_of_records,
-          breaches_of_declarations, functions_of_types, conditions_of_functions, flow_of_functions, syntax_of_functions,
+          universal_powers_in_annotations, checks_of_universal_powers, conditions_of_enumerations, flow_of_types, levels_of_declarations, syntax_of_declarations,
+          syntax_of_arrays, syntax_of_records, breaches_of_declarations, array_types, record_types, uses_of_composites, flow_of_composites,
+          conditions_of_composites, runs_of_composites, functions_of_types, conditions_of_functions, flow_of_functions, syntax_of_functions,
           initial_values, values_of_choices, rules_of_choices, conditions_of_cases, flow_of_cases, syntax_of_cases,
           places_of_checks, syntax_of_checks, syntax_of_predicates, cut_and_spoiled, rules_of_predicates, flow_of_checks,
           conditions_of_annotations, places_of_assertions, rules_of_assertions, facts_after_cuts, order_of_cuts,

@@ -22,6 +22,7 @@ use Rattle.spx_core.specs.declared.name.CoreName.{CoreName}
 use Rattle.spx_core.specs.declared.name.Defining.{Defining}
 use Rattle.spx_core.specs.declared.name.Reference.{Reference}
 use Rattle.spx_core.specs.declared.program.Program.{Program}
+use Rattle.spx_core.specs.declared.program.TypeForm.TheVariants.{Scalar}
 use Rattle.spx_core.specs.declared.program.TypeRow.{TypeRow}
 use Rattle.spx_core.specs.declared.rule.Breach.{Breach}
 use Rattle.spx_core.specs.declared.rule.RuleName.TheVariants.{N10, N13}
@@ -35,7 +36,7 @@ use Rattle.spx_core.specs.Judged.{Judged, ◌>>=◌, breach_in, each, expr_step,
 use Rattle.spx_core.specs.Obeyed.{obeyed_post, obeyed_pre}
 use Rattle.spx_core.specs.Places.{place_in}
 use Rattle.spx_core.specs.Regions.{Region, Regions}
-use Rattle.spx_core.specs.Resolved.{Counts, after_formals, around_body, around_names, at_start, bounded, constant_of, counted, counted_sub, declared_by, declared_by_decls, declaring as declared_after, declaring_all, defining, defining_all, formal_names, integer_type, object_of, or_zero, own_types, params_of, resolved, resolved_decl, resolved_decls, resolved_expr, resolved_reference, resolved_static, resolved_sub, row_of, rows_by, rows_by_decls, standard_types, subtype_of, target_at, type_named, unit_name, value_in}
+use Rattle.spx_core.specs.Resolved.{Counts, after_formals, around_body, around_names, at_start, bounded, constant_of, counted, counted_sub, declared_by, declared_by_decls, declaring as declared_after, declaring_all, defining, defining_all, formal_names, integer_type, object_of, or_zero, own_types, params_of, resolved, resolved_decl, resolved_decls, resolved_expr, resolved_reference, resolved_static, resolved_sub, row_with, rows_by, rows_by_decls, standard_types, subtype_of, target_at, type_named, unit_name, value_in}
 use Rattle.spx_core.specs.Statements.{bound, declared_once, first_name_breach, judged_command, judged_decl, judged_end, judged_item, judged_name, judged_param, judged_predicate, static_between, static_number}
 use Rattle.spx_core.specs.Types.{has_numbers}
 use Rattle.spx_core.specs.Uses.{variable_of}
@@ -115,7 +116,7 @@ abbrev one_type : Region → Identifier → Subtype → Judged ⊤ → Seen
 one_type region name subtype judgement = record {
   judgement = declared_once (defining region (entity.TypeName subtype) name) >>= λ _. judgement;
   names = defining region (entity.TypeName subtype) name ∷ [];
-  rows = row_of (defining region (entity.TypeName subtype) name) ∷ [];
+  rows = row_with Scalar (defining region (entity.TypeName subtype) name) ∷ [];
 }
 
 abbrev numbers : Region → Counts → Identifier → (low high : Judged Typing) → Seen
@@ -145,6 +146,10 @@ module _ (outer : Regions) where
       numbers region before name (static_now (around_names outer region (name ∷ [])) range.low) (static_now (around_names outer region (name ∷ [])) range.high)
   seen_now region before (written_decl.FullType name (written_definition.Enumeration place literals)) =
       seen (resolved_decl outer region before (written_decl.FullType name (written_definition.Enumeration place literals)))
+  seen_now region before (written_decl.FullType name (written_definition.Array place index element)) =
+      seen (resolved_decl outer region before (written_decl.FullType name (written_definition.Array place index element)))
+  seen_now region before (written_decl.FullType name (written_definition.Record fields end)) =
+      seen (resolved_decl outer region before (written_decl.FullType name (written_definition.Record fields end)))
   seen_now region before (written_decl.Subtype name parent None) = seen (resolved_decl outer region before (written_decl.Subtype name parent None))
   seen_now region before (written_decl.Subtype name parent (Some range)) =
       narrowed_to region before name (resolved_reference (around_names outer region (name ∷ [])) parent)
@@ -161,6 +166,8 @@ module _ (outer : Regions) where
   seen_is region before (written_decl.FullType name (written_definition.Integer range)) =
       ap₂ (numbers region before name) (static_is (around_names outer region (name ∷ [])) range.low) (static_is (around_names outer region (name ∷ [])) range.high)
   seen_is region before (written_decl.FullType name (written_definition.Enumeration place literals)) = refl
+  seen_is region before (written_decl.FullType name (written_definition.Array place index element)) = refl
+  seen_is region before (written_decl.FullType name (written_definition.Record fields end)) = refl
   seen_is region before (written_decl.Subtype name parent None) = refl
   seen_is region before (written_decl.Subtype name parent (Some range)) =
       ap₂ (narrowed_to region before name (resolved_reference (around_names outer region (name ∷ [])) parent))

@@ -5,6 +5,7 @@ ghost use Rattle.spx_core.specs.Resolved.{around_names, declared_by, declared_by
 ghost use Rattle.spx_scope.specs.Seen.{seen};
 ghost use Rattle.spx_naming.specs.Counting.{counts_of};
 
+use crate::composites::{resolve_array, resolve_record};
 use crate::meaning::{local_kind, mode_of, object_of};
 use crate::names::declare_all;
 use crate::parts::{resolve_initial, resolve_type_name};
@@ -111,6 +112,13 @@ fn resolve_type(
         TypeDef::Enumeration(place, literals) => {
             let literals = literals.as_slice();
             resolve_enumeration(alloc, region, types, outer, name, *place, literals)
+        }
+        TypeDef::Array(place, index, element) => {
+            resolve_array(alloc, region, types, outer, name, *place, index, element)
+        }
+        TypeDef::Record(fields, end) => {
+            let fields = fields.as_slice();
+            resolve_record(alloc, region, types, outer, name, fields, *end)
         }
     }
 }

@@ -8,6 +8,7 @@
 
 mod changed;
 mod choices;
+mod composites;
 mod declaration;
 mod expression;
 mod meaning;

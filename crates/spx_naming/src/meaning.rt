@@ -1,24 +1,14 @@
 // What declared names denote (Ada 95 RM 3.2, 3.3, 3.5).
 ghost use Rattle.std.specs.Prelude.{◌≡◌};
-ghost use Rattle.spx_core.specs.Resolved.{bounded, chosen_by, constant_of, enumeration_type, integer_base, integer_type, is_in_integer, local_kind, mode_of, narrowed, object_of, static_value, subtype_of, value_or_zero};
+ghost use Rattle.spx_core.specs.Resolved.{bounded, chosen_by, composite_type, constant_of, enumeration_type, integer_base, integer_type, is_in_integer, local_kind, mode_of, narrowed, object_of, static_value, value_or_zero};
 
 use spx_core::{
     BaseType, Class, CoreExpr, CoreRange, Entity, INTEGER, Mode, Object, Reference, Span, Subtype,
     TypeId, UNIVERSAL, VarKind, WIDEST_FIRST, WIDEST_LAST,
 };
 use spx_tree::WrittenMode;
-use spx_types::judge;
+use spx_types::{judge, subtype_of};
 use sqlite_items::Boxed;
-
-/// The subtype that a name denotes; where it denotes none, a rule is broken, and it counts as that of universal numbers.
-pub fn subtype_of(entity: Option<Entity>) -> Subtype
-    ensures { result ≡ subtype_of entity }
-{
-    match entity {
-        Some(Entity::TypeName(subtype)) => subtype,
-        _ => UNIVERSAL,
-    }
-}
 
 /// What is declared of the objects of a declaration with this type name.
 pub fn object_of(kind: VarKind, type_name: &Reference) -> Object
@@ -150,6 +140,25 @@ pub fn enumeration_type(position: usize, count: usize) -> Subtype
         base,
         first: 0,
         last,
+    }
+}
+
+/// A new type of values with parts; what these are, its row says.
+pub fn composite_type(position: usize) -> Subtype
+    ensures { result ≡ composite_type position }
+{
+    let id = TypeId(position);
+    let base = BaseType {
+        id,
+        class: Class::Composite,
+        first: 0,
+        last: 0,
+    };
+    Subtype {
+        id,
+        base,
+        first: 0,
+        last: 0,
     }
 }
 

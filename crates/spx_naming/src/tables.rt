@@ -1,14 +1,14 @@
 // The tables of a program: its variables and its types.
 ghost use Rattle.std.specs.Prelude.{◌≡◌, ◌∷◌, ◌++◌, [], IfOk, OnOk, map};
 ghost use Rattle.spx_core.specs.declared.program.TypeForm.TheVariants.{Scalar};
-ghost use Rattle.spx_core.specs.Resolved.{row_of, standard_types, var_of};
+ghost use Rattle.spx_core.specs.Resolved.{row_with, standard_types, var_of};
 
-use crate::meaning::subtype_of;
 use spx_core::{
     BOOLEAN, Defining, Entity, INTEGER, NATURAL, POSITIVE, Subtype, TypeForm, TypeRow, UNIVERSAL,
     Var, VarKind,
 };
 use spx_text::Text;
+use spx_types::row_with;
 use sqlite_items::Items;
 use std::alloc::{AllocError, Global};
 
@@ -94,13 +94,14 @@ pub fn add_variables(
     Ok(())
 }
 
-/// The type that is declared comes after those before it. Only types without parts are declared.
-pub fn add_row(alloc: Global, types: &mut Items<TypeRow>, name: &Defining) -> Result<(), AllocError>
-    ensures { OnOk result (types.new ≡ types.old ++ row_of name.now ∷ []) }
+/// The type that is declared comes after those before it. Its values are made of this.
+pub fn add_row(
+    alloc: Global,
+    types: &mut Items<TypeRow>,
+    form: TypeForm,
+    name: &Defining,
+) -> Result<(), AllocError>
+    ensures { OnOk result (types.new ≡ types.old ++ row_with form name.now ∷ []) }
 {
-    types.push(TypeRow {
-        name: name.name.text.copy(alloc)?,
-        subtype: subtype_of(Some(name.entity)),
-        form: TypeForm::Scalar,
-    })
+    types.push(row_with(alloc, form, name)?)
 }

@@ -2,40 +2,41 @@
 ghost use Rattle.std.specs.Prelude.{◌≡◌, ◌∷◌, ◌++◌, [], IfOk, length, option_map};
 ghost use Rattle.spx_core.specs.declared.entity.Entity.TheVariants as entity;
 ghost use Rattle.spx_core.specs.declared.rule.ExprType.TheVariants.{Universal};
-ghost use Rattle.spx_core.specs.Resolved.{around_names, constants_of, declared_by, declaring, declaring_all, defining, enumeration_decl, integer_decl, resolved_range, resolved_reference, resolved_static, row_of, rows_by, subtype_decl};
+ghost use Rattle.spx_core.specs.Resolved.{around_names, constants_of, declared_by, declaring, declaring_all, defining, enumeration_decl, integer_decl, resolved_range, resolved_reference, resolved_static, row_with, rows_by, subtype_decl};
 ghost use Rattle.spx_scope.specs.Seen.{seen};
 
-use crate::meaning::{
-    constant_of, enumeration_type, narrowed, range_type, static_value, subtype_of,
-};
+use crate::meaning::{constant_of, enumeration_type, narrowed, range_type, static_value};
 use crate::names::{declare, declare_all};
 use crate::parts::{
     resolve_constraint, resolve_range, resolve_type_mark, resolve_type_name, resolve_value,
 };
 use crate::tables::add_row;
 use spx_core::{
-    CoreDecl, CoreRange, CoreTypeDef, Defining, Entity, ExprType, Meaning, Subtype, TypeRow,
+    CoreDecl, CoreRange, CoreTypeDef, Defining, Entity, ExprType, Meaning, Subtype, TypeForm,
+    TypeRow,
 };
 use spx_scope::{Region, Scope};
 use spx_text::Place;
 use spx_tree::{Expr, Identifier, Name, Range};
+use spx_types::subtype_of;
 use sqlite_items::{Boxed, Items};
 use std::alloc::{AllocError, Global};
 use std::slice;
 
-/// Declares the name of a type, which comes after those before it.
-fn declare_type(
+/// Declares the name of a type, which comes after those before it. Its values are made of this.
+pub fn declare_type(
     alloc: Global,
     region: &mut Region,
     types: &mut Items<TypeRow>,
     outer: &Scope<'_>,
     subtype: Subtype,
+    form: TypeForm,
     name: &Identifier,
 ) -> Result<Boxed<Defining>, AllocError>
-    ensures { IfOk result (λ d. (d ≡ defining region.old (entity.TypeName subtype) name.now) × (region.new ≡ declaring region.old d) × (types.new ≡ types.old ++ row_of d ∷ [])) }
+    ensures { IfOk result (λ d. (d ≡ defining region.old (entity.TypeName subtype) name.now) × (region.new ≡ declaring region.old d) × (types.new ≡ types.old ++ row_with form d ∷ [])) }
 {
     let defined = declare(alloc, region, outer, Entity::TypeName(subtype), name)?;
-    add_row(alloc, types, &defined)?;
+    add_row(alloc, types, form, &defined)?;
     Boxed::new(alloc, defined)
 }
 
@@ -51,7 +52,8 @@ fn declare_integer(
     ensures { IfOk result (λ d. (d ≡ integer_decl region.old (length types.old) name.now range) × (region.new ≡ declaring_all region.old (declared_by d)) × (types.new ≡ types.old ++ rows_by d)) }
 {
     let subtype = range_type(types.len(), &range);
-    let name = declare_type(alloc, region, types, outer, subtype, name)?;
+    let form = TypeForm::Scalar;
+    let name = declare_type(alloc, region, types, outer, subtype, form, name)?;
     let definition = Boxed::new(alloc, CoreTypeDef::Integer(range))?;
     Ok(CoreDecl::FullType(name, definition))
 }
@@ -91,7 +93,8 @@ pub fn resolve_enumeration(
     ensures { IfOk result (λ d. (d ≡ enumeration_decl region.old (length types.old) name.now place literals.now) × (region.new ≡ declaring_all region.old (declared_by d)) × (types.new ≡ types.old ++ rows_by d)) }
 {
     let subtype = enumeration_type(types.len(), literals.len());
-    let name = declare_type(alloc, region, types, outer, subtype, name)?;
+    let form = TypeForm::Scalar;
+    let name = declare_type(alloc, region, types, outer, subtype, form, name)?;
     let meaning = Meaning::Literals(subtype);
     let literals = declare_all(alloc, region, outer, meaning, 0, literals)?;
     let definition = Boxed::new(alloc, CoreTypeDef::Enumeration(place, literals))?;
@@ -114,7 +117,8 @@ pub fn resolve_subtype(
     let parent = resolve_type_name(alloc, region, outer, hidden, parent)?;
     let range = resolve_constraint(alloc, ExprType::Universal, region, outer, hidden, range)?;
     let subtype = narrowed(types.len(), subtype_of(parent.get().root.entity), &range);
-    let name = declare_type(alloc, region, types, outer, subtype, name)?;
+    let form = TypeForm::Scalar;
+    let name = declare_type(alloc, region, types, outer, subtype, form, name)?;
     Ok(CoreDecl::Subtype(name, parent, range))
 }
 

@@ -12,7 +12,7 @@ use std::alloc::{AllocError, Global};
 use std::test::Fail;
 
 const TEXT: &[u8] =
-    b"procedure Set (X : in out Integer)\nis\n   type Count is range 0 .. 10;\n   type Colour is (Red);\n   subtype Few is Count range 1 .. 5;\nbegin\n   X := 7;\nend Set;\n";
+    b"procedure Set (X : in out Integer)\nis\n   type Count is range 0 .. 10;\n   type Colour is (Red);\n   subtype Few is Count range 1 .. 5;\n   type List is array (Few) of Colour;\n   type Pair is record P, Q : List; end record;\nbegin\n   X := 7;\nend Set;\n";
 
 /// The program of a text.
 pub fn program(alloc: Global, text: &[u8]) -> Result<Boxed<Program>, AllocError>
@@ -54,7 +54,7 @@ fn are_rows(alloc: Global, program: &Program, rows: &[TypeRow]) -> bool {
 fn a_declared_type_has_a_row(rt: HostRuntime) -> Result<(), Fail> {
     let program = program(rt.alloc(), TEXT)?;
     let rows = declared(program.get().types.as_slice());
-    assert_eq!(rt; rows.len(), 3);
+    assert_eq!(rt; rows.len(), 5);
     assert!(rt; are_rows(rt.alloc(), program.get(), rows));
     Ok(())
 }

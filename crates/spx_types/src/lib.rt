@@ -4,7 +4,8 @@
 //! A layer above may rely on this: `judge` answers what an expression is, or the first rule that is broken in it
 //! (`judged` of `spx_core`), and `application`, `named_type`, `referred_type` and their kin do so for a function or a name.
 //! Each function mirrors the definition that its contract cites, and declarations and statements are judged with the same
-//! words: the tests on types and values are those of `Types`, the rules those of `Judged`. Nothing allocates.
+//! words: the tests on types and values are those of `Types`, the rules those of `Judged`. Nothing of this allocates. What
+//! the table of types says of a declared type, `row_with` and `form_of` make.
 #![tactic(auto)]
 
 mod attributes;
@@ -13,6 +14,7 @@ mod functions;
 mod membership;
 mod names;
 mod parts;
+mod rows;
 mod targets;
 mod types;
 mod values;
@@ -22,6 +24,7 @@ pub use functions::application;
 pub use membership::ordered_type;
 pub use names::{keeps, named_type, referred_object, referred_type};
 pub use parts::indexed;
+pub use rows::{form_of, row_with, subtype_of};
 pub use targets::{judged_way, referred_target};
 pub use types::{
     has_numbers, is_number, is_numeric, is_of, is_ordered, is_parted, is_same_type, met,

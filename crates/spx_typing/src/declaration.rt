@@ -4,12 +4,12 @@ ghost use Rattle.spx_core.specs.Judged.{each, if_there};
 ghost use Rattle.spx_core.specs.Statements as rules;
 
 use spx_core::{
-    BaseType, Breach, CoreDecl, CoreExpr, CoreParam, CoreRange, CoreTypeDef, Defining, Reference,
-    RuleName, Subtype, Typing, WIDEST_FIRST, WIDEST_LAST,
+    BaseType, Breach, CoreDecl, CoreExpr, CoreFieldDecl, CoreParam, CoreRange, CoreTypeDef,
+    Defining, Reference, RuleName, Subtype, Typing, WIDEST_FIRST, WIDEST_LAST,
 };
 use spx_text::Place;
 use spx_types::{
-    has_numbers, is_between, is_number, is_of, judge, keeps, referred_type, static_at,
+    has_numbers, is_between, is_number, is_of, judge, keeps, ordered_type, referred_type, static_at,
 };
 use sqlite_items::Boxed;
 
@@ -90,6 +90,22 @@ fn range_within(
     keeps(RuleName::N13, place, kept)
 }
 
+/// The first broken rule in fields that are declared together.
+fn judge_field(field: &CoreFieldDecl) -> Result<(), Breach>
+    ensures { result ≡ rules.judged_field field.now }
+{
+    declared(field.names.as_slice(), &field.type_name)
+}
+
+fn judge_fields(fields: &[CoreFieldDecl]) -> Result<(), Breach>
+    ensures { result ≡ each rules.judged_field fields.now }
+{
+    for field in fields {
+        judge_field(field)?;
+    }
+    Ok(())
+}
+
 /// The first broken rule in what a type is declared as.
 fn judge_definition(definition: &CoreTypeDef) -> Result<(), Breach>
     ensures { result ≡ rules.judged_definition definition.now }
@@ -97,6 +113,12 @@ fn judge_definition(definition: &CoreTypeDef) -> Result<(), Breach>
     match definition {
         CoreTypeDef::Integer(range) => range_within(None, WIDEST_FIRST, WIDEST_LAST, range),
         CoreTypeDef::Enumeration(_, literals) => all_declared_once(literals.as_slice()),
+        CoreTypeDef::Array(_, index, element) => {
+            ordered_type(index)?;
+            referred_type(element)?;
+            Ok(())
+        }
+        CoreTypeDef::Record(fields, _) => judge_fields(fields.as_slice()),
     }
 }
 

@@ -2,12 +2,11 @@
 ghost use Rattle.std.specs.Prelude.{◌≡◌, Some, IfOk};
 ghost use Rattle.spx_typing.specs.declared.row.TypeFault.TheVariants as reason;
 ghost use Rattle.spx_typing.specs.Rows.{Gives, row_declared};
-ghost use Rattle.spx_core.specs.Resolved.{row_of, subtype_of};
+ghost use Rattle.spx_core.specs.Resolved.{form_of, row_with};
 
 use crate::declaration::judge_decl;
-use spx_core::{
-    Breach, CoreDecl, Defining, Entity, Program, RuleName, Subtype, TypeForm, TypeRow, UNIVERSAL,
-};
+use spx_core::{Breach, CoreDecl, CoreTypeDef, Defining, Program, RuleName, TypeForm, TypeRow};
+use spx_types::{form_of, row_with};
 use std::alloc::{AllocError, Global};
 use thiserror::Error;
 
@@ -37,24 +36,15 @@ impl From<AllocError> for TypeFault {
     }
 }
 
-/// The type that an entity is, or the universal one.
-fn subtype_of(entity: Entity) -> Subtype
-    ensures { result ≡ subtype_of (Some entity) }
+fn row_of_type(
+    alloc: Global,
+    name: &Defining,
+    definition: &CoreTypeDef,
+) -> Result<TypeRow, AllocError>
+    ensures { IfOk result (λ row. row ≡ row_with (form_of definition.now) name.now) }
 {
-    match entity {
-        Entity::TypeName(subtype) => subtype,
-        _ => UNIVERSAL,
-    }
-}
-
-fn row_of(alloc: Global, name: &Defining) -> Result<TypeRow, AllocError>
-    ensures { IfOk result (λ row. row ≡ row_of name.now) }
-{
-    Ok(TypeRow {
-        name: name.name.text.copy(alloc)?,
-        subtype: subtype_of(name.entity),
-        form: TypeForm::Scalar,
-    })
+    let form = form_of(alloc, definition)?;
+    row_with(alloc, form, name)
 }
 
 /// The row that a declaration of a type or subtype adds to the table of types, or the first rule that is broken in it.
@@ -64,8 +54,10 @@ pub fn type_row(alloc: Global, _program: &Program, decl: &CoreDecl) -> Result<Ty
 {
     judge_decl(decl)?;
     match decl {
-        CoreDecl::FullType(name, _) => Ok(row_of(alloc, name.get())?),
-        CoreDecl::Subtype(name, _, _) => Ok(row_of(alloc, name.get())?),
+        CoreDecl::FullType(name, definition) => {
+            Ok(row_of_type(alloc, name.get(), definition.get())?)
+        }
+        CoreDecl::Subtype(name, _, _) => Ok(row_with(alloc, TypeForm::Scalar, name.get())?),
         CoreDecl::Variables(_, type_name, _) => Err(TypeFault::Breach(Breach {
             rule: RuleName::N3,
             place: type_name.get().root.name.place,
