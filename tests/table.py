@@ -5107,7 +5107,7 @@ def syntax_of_arrays():
             'array_of_elements_in_parentheses': 'type T is array (Boolean) of @(Integer)',
             'array_with_a_value': 'type T is array (Boolean) of Integer @:= 1', 'array_word_first': '@array T (Boolean) of Integer',
             'variable_of_an_array': 'V : @array (Boolean) of Integer', 'constant_of_an_array': 'C : constant @array (Boolean) of Integer := 1',
-            'subtype_of_an_array': 'subtype S is @array (Boolean) of Integer',
+            'subtype_of_a_written_array': 'subtype S is @array (Boolean) of Integer',
             'variable_with_an_index': 'V : Integer @(1 .. 5)', 'subtype_with_an_index': 'subtype S is Integer @(1 .. 5)',
             'marked_array': 'type T is --# @array\n(Boolean) of Integer', 'marked_index': 'type T is array ( --# @Boolean\n) of Integer',
             'marked_of': 'type T is array (Boolean) --# @of\nInteger', 'marked_element': 'type T is array (Boolean) of --# @Integer\n'}.items():
@@ -5135,7 +5135,7 @@ def syntax_of_records():
             'limited_record': 'type T is @limited record P : Integer; end record', 'record_with_an_end_name': 'type T is record P : Integer; end record @T',
             'record_with_a_value': 'type T is record P : Integer; end record @:= 1', 'record_word_first': '@record T is P : Integer; end record',
             'variable_of_a_record': 'V : @record P : Integer; end record', 'constant_of_a_record': 'C : constant @record P : Integer; end record := 1',
-            'subtype_of_a_record': 'subtype S is @record P : Integer; end record',
+            'subtype_of_a_written_record': 'subtype S is @record P : Integer; end record',
             'marked_record': 'type T is --# @record\nP : Integer; end record', 'marked_field': 'type T is record --# @P\n: Integer; end record',
             'marked_later_field': 'type T is record P : Integer; --# @Q : Boolean;\nend record',
             'marked_end_of_a_record': 'type T is record P : Integer; --# @end\nrecord'}.items():
