@@ -17,6 +17,7 @@ pub mod Sequents
 pub mod Found
 pub mod Findings
 pub mod Declarations
+pub mod CompositeTypes
 pub mod Powers
 pub mod Selections
 pub mod Assertions

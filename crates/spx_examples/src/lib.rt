@@ -9,6 +9,7 @@ pub mod bad_laws;
 pub mod branch_laws;
 pub mod call_laws;
 pub mod composite_laws;
+pub mod composite_type_laws;
 pub mod context_laws;
 pub mod count_laws;
 pub mod declaration_laws;
