@@ -13,10 +13,11 @@ use Rattle.spx_core.specs.Places.{place_of}
 use Rattle.spx_core.specs.Uses.{variable_of}
 use Rattle.spx_term.specs.declared.value.Value.{Value}
 use Rattle.spx_term.specs.Parts.{Step, with_end}
-use Rattle.spx_meaning.specs.Evaluation.{Answer, Gives, Fails, Waits, eval, eval_on, in_part, read, with_value, with_way}
+use Rattle.spx_term.specs.Values.{Types}
+use Rattle.spx_meaning.specs.Evaluation.{Answer, Gives, Fails, Waits, eval, eval_on, in_part, read, read_at, with_value, with_way}
 use Rattle.spx_meaning.specs.Frames.{Frame}
 use Rattle.spx_meaning.specs.Runs.{Outcome, Ended, stored_on, use_value}
-use Rattle.spx_meaning.specs.Stores.{Store, put, types_of, with_at}
+use Rattle.spx_meaning.specs.Stores.{Store, look, put, types_of, with_at}
 use Rattle.spx_interp.specs.declared.stop.Stop.{Stop}
 use Rattle.spx_interp.specs.declared.stop.Stop.TheVariants as stop
 use Rattle.spx_interp.specs.Results.{Done, ran, stopped}
@@ -94,3 +95,10 @@ module _ (f : Frame) (n : ℕ) (s : Store) (target : Target) (e : CoreExpr) wher
     part_of_none steps x way on is =
         given steps x way on
         ∙ ap (λ o. Some (use_value (with_value (read s target.root.name.place o) (λ old. Gives (with_end (types_of f.program) steps old x))) (stored_part s o))) is
+
+-- the value with the part is put in the place of the old one, which was taken out
+pub part_put : (types : Types) (place : Place) (v : VarId) (steps : List Step) (x old new : Value) (s t u : Store) → look s v ≡ Some old → t ≡ put s v None → new ≡ with_end types steps old x → u ≡ put t v (Some new)
+    → Some (part_set types place v steps x s) ≡ Some (Ended u)
+part_put types place v steps x old new s t u is rest ends last =
+    ap (λ o. Some (use_value (with_value (read_at place o) (λ y. Gives (with_end types steps y x))) (λ y. Ended (put s v (Some y))))) is
+    ∙ ap (λ w. Some (Ended w)) (ap (λ y. put s v (Some y)) (sym ends) ∙ sym (put_again s v None (Some new)) ∙ ap (λ w. put w v (Some new)) (sym rest) ∙ sym last)
