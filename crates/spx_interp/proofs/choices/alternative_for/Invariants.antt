@@ -6,4 +6,4 @@ use Rattle.spx_interp.proofs.choices.alternative_for.Given as goal
 
 -- none before this one has the value
 abbrev pub invariant-loop-k : goal.invariant-loop-k
-invariant-loop-k l = (f : Frame) (n : ℕ) (s : Store) → ran_alternatives l.value.now f n s l.alternatives ≡ ran_alternatives l.value.now f n s (drop l.k l.alternatives)
+invariant-loop-k l = (f : Frame) (n : ℕ) (s : Store) → ran_alternatives l.value f n s l.alternatives ≡ ran_alternatives l.value f n s (drop l.k l.alternatives)
