@@ -76,7 +76,12 @@ fn field<'a>(
 ) -> Result<Operand<'a>, RunFault>
     ensures { Computes result (Some (field_value (types_of body.now.program.now) selection.now whole.entry)) }
 {
-    let field = part(body.alloc, body.program, whole, PlacedStep::Field(*selection))?;
+    let field = part(
+        body.alloc,
+        body.program,
+        whole,
+        PlacedStep::Field(*selection),
+    )?;
     Ok(field)
 }
 
@@ -97,7 +102,12 @@ fn computed<'a>(
             None => reading_of(body.alloc, body.program, store, variable_of(name.entity)),
         },
         CoreExpr::Entry(name, _) => {
-            reading_of(body.alloc, body.program, body.entry, variable_of(name.entity))
+            reading_of(
+                body.alloc,
+                body.program,
+                body.entry,
+                variable_of(name.entity),
+            )
         }
         CoreExpr::Attribute(_, _) => match literal(expr) {
             Some(value) => Ok(Operand::scalar(value)),

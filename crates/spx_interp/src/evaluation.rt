@@ -79,11 +79,7 @@ fn held_within<'a>(
 }
 
 /// The value of an operation, if it lies in the range of the base type.
-fn in_base<'a>(
-    base: BaseType,
-    place: Place,
-    found: Option<Operand<'a>>,
-) -> Result<Operand<'a>, Bad>
+fn in_base<'a>(base: BaseType, place: Place, found: Option<Operand<'a>>) -> Result<Operand<'a>, Bad>
     ensures { (x : Value) → found.entry ≡ held x → answered result ≡ in_base base place x }
 {
     let bad = Bad {
@@ -248,7 +244,12 @@ pub(crate) fn index_checked(
     ensures { InIndex result indexing.now place index.now }
 {
     let subtype = indexing.index;
-    if is_within(Class::Integer, subtype.first, subtype.last, index.as_value()) {
+    if is_within(
+        Class::Integer,
+        subtype.first,
+        subtype.last,
+        index.as_value(),
+    ) {
         Ok(index.as_number())
     } else {
         Err(Stop::Failed(Bad {
@@ -277,14 +278,15 @@ fn element<'a>(
 
 /// A field of a record.
 #[tactic(auto, using(crate::proofs::WayLaws::read_laws))]
-fn field<'a>(
-    body: &Body,
-    whole: Operand<'a>,
-    selection: &Selection,
-) -> Result<Operand<'a>, Stop>
+fn field<'a>(body: &Body, whole: Operand<'a>, selection: &Selection) -> Result<Operand<'a>, Stop>
     ensures { Answers result (Gives (field_value (types_of body.now.program.now) selection.now whole.entry)) }
 {
-    let field = part(body.alloc, body.program, whole, PlacedStep::Field(*selection))?;
+    let field = part(
+        body.alloc,
+        body.program,
+        whole,
+        PlacedStep::Field(*selection),
+    )?;
     Ok(field)
 }
 

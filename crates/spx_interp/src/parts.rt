@@ -43,11 +43,7 @@ fn with_part(value: Value, step: PlacedStep, part: Value) -> Value
 }
 
 /// The first value of the type of the part.
-fn first_part(
-    alloc: Global,
-    program: &Program,
-    step: PlacedStep,
-) -> Result<Value, AllocError>
+fn first_part(alloc: Global, program: &Program, step: PlacedStep) -> Result<Value, AllocError>
     ensures { IfOk result (λ value. value ≡ absent_part (types_of program.now) step) }
 {
     match step {

@@ -25,13 +25,7 @@ use spx_tree::AssertionKind;
 use sqlite_items::Boxed;
 
 /// Gives a variable a value of its type.
-fn assign(
-    body: &Body,
-    store: &mut [Option<Value>],
-    place: Place,
-    var: VarId,
-    value: Value,
-) -> Step
+fn assign(body: &Body, store: &mut [Option<Value>], place: Place, var: VarId, value: Value) -> Step
     requires { var.0 < length store.old }
     ensures { assign body.now.program.now place (Some var) store.old value ≡ outcome_of result store.new }
 {

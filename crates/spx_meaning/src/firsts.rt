@@ -86,11 +86,7 @@ fn first_fields(
 
 /// The first value of a type of the program.
 #[tactic(auto, using(crate::proofs::FirstValues::before_end))]
-pub fn first_value(
-    alloc: Global,
-    program: &Program,
-    subtype: Subtype,
-) -> Result<Value, AllocError>
+pub fn first_value(alloc: Global, program: &Program, subtype: Subtype) -> Result<Value, AllocError>
     ensures { IfOk result (λ value. value ≡ first_value (types_of program.now) subtype) }
 {
     first_before(alloc, program, program.types.len(), subtype)

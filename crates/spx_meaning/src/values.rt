@@ -230,10 +230,7 @@ fn copy_slot(alloc: Global, slot: &Option<Value>) -> Result<Option<Value>, Alloc
 }
 
 /// Equal values, by the variables' positions. None is that of an unset variable.
-pub fn copy_slots(
-    alloc: Global,
-    slots: &[Option<Value>],
-) -> Result<Vec<Option<Value>>, AllocError>
+pub fn copy_slots(alloc: Global, slots: &[Option<Value>]) -> Result<Vec<Option<Value>>, AllocError>
     ensures { IfOk result (λ copies. copies.items ≡ slots.now) }
 {
     let mut copies = Vec::new(alloc);

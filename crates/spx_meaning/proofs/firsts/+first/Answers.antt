@@ -30,9 +30,9 @@ first_composite-returns-in_ok-element-in-Array t c =
     let at = c.index-as_slice-id.is ∙ ap (λ (rows : List TypeRow). get_or rows k row) c.as_slice.ensures in
     let here = c.in-Array in
     let same =
-        ap₂ (λ (i : Subtype) (x : Value). Elements i.first (replicate (count i.first i.last) x)) c.get-in-Array.ensures
-        (c.in_ok-element-in-Array.ensures ∙ ap (first_value (types_before p k)) c.get.ensures)
-        ∙ sym (first_array p c.args.size k row here.index here.element c.if-id-size.false c.requires at here.is)
+    ap₂ (λ (i : Subtype) (x : Value). Elements i.first (replicate (count i.first i.last) x)) c.get-in-Array.ensures
+    (c.in_ok-element-in-Array.ensures ∙ ap (first_value (types_before p k)) c.get.ensures)
+    ∙ sym (first_array p c.args.size k row here.index here.element c.if-id-size.false c.requires at here.is)
     in
     subst (λ (x : Value). IfOk c.array_of.result (λ value. value ≡ x)) same c.array_of.ensures
 
