@@ -1,6 +1,8 @@
 pub mod BitLaws
 pub mod BoundLaws
 pub mod MappingLaws
+pub mod WayLaws
+pub mod PartLaws
 pub mod EvalLaws
 pub mod RunForms
 pub mod ChoiceLaws

@@ -1,3 +1,5 @@
+pub mod Operands
 pub mod Rooms
+pub mod Ways
 pub mod Results
 pub mod Calls

@@ -4,6 +4,7 @@ use Rattle.spx_text.specs.declared.place.Place.{Place}
 use Rattle.spx_core.specs.declared.expression.CoreExpr.{CoreExpr}
 use Rattle.spx_core.specs.declared.entity.Class.TheVariants.{Integer}
 use Rattle.spx_core.specs.declared.function.Span.{Span}
+use Rattle.spx_core.specs.declared.part.Indexing.{Indexing}
 use Rattle.spx_core.specs.declared.statement.CoreAlternative.{CoreAlternative, out-CoreAlternative}
 use Rattle.spx_core.specs.declared.statement.CoreArm.{CoreArm, out-CoreArm}
 use Rattle.spx_core.specs.declared.statement.CoreCount.{CoreCount}
@@ -13,7 +14,7 @@ use Rattle.spx_core.specs.declared.subprogram.Sub.{Sub}
 use Rattle.spx_core.specs.Commands.{Command, Skip, Alternatives, Head, Tested, Counted, Endless, alternative, alternatives_of, commands}
 use Rattle.spx_term.specs.declared.value.Value.{Value}
 use Rattle.spx_term.specs.declared.value.Value.TheVariants.{Truth}
-use Rattle.spx_term.specs.Meaning.{as_truth}
+use Rattle.spx_term.specs.Meaning.{as_number, as_truth}
 use Rattle.spx_meaning.specs.declared.bad.BadKind.{BadKind}
 use Rattle.spx_meaning.specs.declared.bad.BadKind.TheVariants as bad
 use Rattle.spx_meaning.specs.declared.bad.Bad.{Bad}
@@ -50,6 +51,12 @@ abbrev pub Answers : Result Value Stop → Answer → Type 0
 Answers (Ok x) answer = Gives x ≡ answer
 Answers (Err (stop.Failed fault)) answer = Fails fault.kind fault.place ≡ answer
 Answers (Err stop.Memory) answer = ⊤
+
+-- the number of an index that lies in the index subtype
+abbrev pub InIndex : Result ℤ Stop → Indexing → Place → Value → Type 0
+InIndex (Ok i) x place k = (is_within Integer x.index.first x.index.last k ≡ true) × (i ≡ as_number k)
+InIndex (Err (stop.Failed fault)) x place k = (is_within Integer x.index.first x.index.last k ≡ false) × (fault.kind ≡ bad.Index) × (fault.place ≡ place)
+InIndex (Err stop.Memory) x place k = ⊤
 
 -- the result of a test is the truth of the answer
 abbrev pub truth_answered : Result Bool Stop → Answer → Type 0

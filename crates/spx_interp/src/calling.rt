@@ -22,13 +22,13 @@ use crate::statements::{look_at, run_stmts};
 use crate::step::Step;
 use spx_core::laws::{names_are_scoped, rules_hold};
 use spx_core::{CorePredicate, Program, Sub, SubId, VarSet};
-use spx_meaning::{Bad, BadKind, Scalar, Store};
+use spx_meaning::{Bad, BadKind, Store, Value, copy_slots};
 use std::alloc::Global;
 
 /// Looks at a precondition or a postcondition. None is true.
 fn look_at_predicate(
     body: &Body,
-    store: &[Option<Scalar>],
+    store: &[Option<Value>],
     kind: BadKind,
     predicate: &Option<CorePredicate>,
 ) -> Result<Step, RunFault>
@@ -47,7 +47,7 @@ fn look_at_predicate(
 }
 
 /// Whether each export among the formals is set.
-fn exports_set(sub: &Sub, exports: &VarSet, store: &[Option<Scalar>]) -> bool
+fn exports_set(sub: &Sub, exports: &VarSet, store: &[Option<Value>]) -> bool
     requires { AreExports sub.now exports.now }
     ensures { result ≡ exports_set sub.now store.now }
 {
@@ -60,7 +60,7 @@ fn exports_set(sub: &Sub, exports: &VarSet, store: &[Option<Scalar>]) -> bool
 }
 
 /// Looks at what must hold at the end: each export is set, and the postcondition is true.
-fn end_body(body: &Body, exports: &VarSet, store: &[Option<Scalar>]) -> Result<Step, RunFault>
+fn end_body(body: &Body, exports: &VarSet, store: &[Option<Value>]) -> Result<Step, RunFault>
     requires { AreExports body.now.sub.now exports.now }
     ensures { Done result store.now (body_ended (frame_of body.now) store.now) }
 {
@@ -79,7 +79,7 @@ fn run_body(
     body: &Body,
     exports: &VarSet,
     turns: u64,
-    store: &mut [Option<Scalar>],
+    store: &mut [Option<Value>],
 ) -> Result<Step, RunFault>
     requires exports { AreExports body.now.sub.now exports.now }
     requires entry { store.old ≡ body.now.entry.now }
@@ -100,7 +100,7 @@ fn run_body(
 /// The values after a call, and how it ends.
 #[derive(Drop)]
 struct Run {
-    slots: Vec<Option<Scalar>>,
+    slots: Vec<Option<Value>>,
     step: Step,
 }
 
@@ -121,11 +121,12 @@ fn run_sub(
 {
     let exports = VarSet::exports(alloc, sub)?;
     let entry = entry_of(alloc, program, sub, store)?;
-    let mut slots = Vec::from_slice(alloc, entry.as_slice())?;
+    let mut slots = copy_slots(alloc, entry.as_slice())?;
     let body = Body {
         program,
         sub,
         entry: entry.as_slice(),
+        alloc,
     };
     let step = run_body(&body, &exports, turns, &mut slots)?;
     Ok(Run { slots, step })

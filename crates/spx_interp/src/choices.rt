@@ -11,7 +11,7 @@ use crate::body::Body;
 use crate::evaluation::is_true;
 use crate::stop::Stop;
 use spx_core::{CoreAlternative, CoreArm, CoreChoice, Span};
-use spx_meaning::Scalar;
+use spx_meaning::{Value, as_number};
 use sqlite_items::Items;
 
 /// The values of a choice.
@@ -41,11 +41,11 @@ fn is_chosen(number: i128, choices: &[CoreChoice]) -> bool
 }
 
 /// Whether one of the choices has the value. `others` has every value.
-fn has_value(choices: &Option<Items<CoreChoice>>, value: Scalar) -> bool
-    ensures { result ≡ has_value choices.now value }
+fn has_value(choices: &Option<Items<CoreChoice>>, value: &Value) -> bool
+    ensures { result ≡ has_value choices.now value.now }
 {
     match choices {
-        Some(choices) => is_chosen(value.as_number(), choices.as_slice()),
+        Some(choices) => is_chosen(as_number(value), choices.as_slice()),
         None => true,
     }
 }
@@ -54,7 +54,7 @@ fn has_value(choices: &Option<Items<CoreChoice>>, value: Scalar) -> bool
 pub(crate) fn first_arm(
     body: &Body,
     turns: u64,
-    store: &[Option<Scalar>],
+    store: &[Option<Value>],
     arms: &[CoreArm],
 ) -> Result<Option<usize>, Stop>
     ensures within { IfOk result (λ found. IfSome found (λ k. k < length arms.now)) }
@@ -71,10 +71,10 @@ pub(crate) fn first_arm(
 }
 
 /// The first alternative that has the value. The last one has all values that are left.
-pub(crate) fn alternative_for(alternatives: &[CoreAlternative], value: Scalar) -> usize
+pub(crate) fn alternative_for(alternatives: &[CoreAlternative], value: &Value) -> usize
     requires { 0 < length alternatives.now }
     ensures within { result < length alternatives.now }
-    ensures runs { (f : Frame) (n : ℕ) (s : Store) → ran_alternatives value f n s alternatives.now ≡ ran f n s (alternative_at alternatives.now result) }
+    ensures runs { (f : Frame) (n : ℕ) (s : Store) → ran_alternatives value.now f n s alternatives.now ≡ ran f n s (alternative_at alternatives.now result) }
 {
     let last = alternatives.len() - 1;
     for k in 0..last {

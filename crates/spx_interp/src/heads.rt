@@ -11,13 +11,13 @@ use crate::body::Body;
 use crate::evaluation::{eval, is_true};
 use crate::stop::Stop;
 use spx_core::{CoreCount, CoreScheme, Span, Subtype};
-use spx_meaning::{Bad, BadKind, Scalar, lies_in, type_of};
+use spx_meaning::{Bad, BadKind, Value, lies_in, type_of};
 
 /// Whether a loop takes another turn, as far as its condition says. One without a condition does.
 pub(crate) fn goes_on(
     body: &Body,
     turns: u64,
-    store: &[Option<Scalar>],
+    store: &[Option<Value>],
     scheme: &CoreScheme,
 ) -> Result<bool, Stop>
     ensures { truth_answered result (test_of (frame_of body.now) turns store.now (head_of scheme.now)) }
@@ -33,15 +33,15 @@ fn are_in_type(subtype: Subtype, bounds: Span) -> bool
     ensures { result ≡ (not (int_le bounds.first bounds.last) || (lies_in subtype (Number bounds.first) && lies_in subtype (Number bounds.last))) }
 {
     bounds.first > bounds.last
-        || lies_in(subtype, Scalar::number(bounds.first))
-            && lies_in(subtype, Scalar::number(bounds.last))
+        || lies_in(subtype, &Value::Number(bounds.first))
+            && lies_in(subtype, &Value::Number(bounds.last))
 }
 
 /// The bounds of a loop that counts. Where none are written, they are the ends of the type.
 pub(crate) fn bounds_of(
     body: &Body,
     turns: u64,
-    store: &[Option<Scalar>],
+    store: &[Option<Value>],
     count: &CoreCount,
 ) -> Result<Span, Stop>
     ensures runs { (go : (low high : ℤ) → Store → Outcome) → OnBounds result store.now go (with_bounds (frame_of body.now) turns store.now (type_of body.now.program.now count.now.parameter) count.now.bounds go) }

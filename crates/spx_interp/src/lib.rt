@@ -2,11 +2,11 @@
 //!
 //! A layer above may rely on these calls. `call` gives exactly how the bounded call of a subprogram ends, and changes the store only where
 //! it has ended. `elaborate` gives the store that a program begins with. A number that an annotation computes has at most 128 bits: the
-//! answer is `TooLarge` where a run passes this limit before it ends (`call_passes`), and only there. There is no memory yet for values with
-//! parts: a run that names an element or a field, sets a part, or reads an unset variable with parts in an annotation is out of memory.
+//! answer is `TooLarge` where a run passes this limit before it ends (`call_passes`), and only there.
 #![tactic(auto)]
 
 mod annotation;
+mod assignment;
 mod body;
 mod calling;
 mod choices;
@@ -15,7 +15,9 @@ mod evaluation;
 mod fault;
 mod heads;
 mod numbers;
+mod operand;
 mod operations;
+mod parts;
 mod slots;
 mod statements;
 mod step;

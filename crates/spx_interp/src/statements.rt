@@ -7,34 +7,29 @@ ghost use Rattle.spx_interp.specs.Results.{Done, IsWay, arm_at, frame_of, looked
 ghost use Rattle.spx_interp.specs.Rooms.{AlternativesHaveRoom, ArmsHaveRoom, HasRoom, IsTested};
 
 use crate::annotation::truth;
+use crate::assignment::assign_part;
 use crate::body::Body;
 use crate::choices::{alternative_for, first_arm};
-use crate::evaluation::{eval, is_true};
+use crate::evaluation::{eval_value, is_true};
 use crate::fault::RunFault;
 use crate::heads::{bounds_of, goes_on, value_after, way_of};
-use crate::slots::{put, unset};
+use crate::slots::{put, put_number, unset};
 use crate::step::Step;
 use spx_core::{
     CoreAlternative, CoreArm, CoreCount, CoreExpr, CoreScheme, CoreStmt, Span, Target, VarId,
     variable_of,
 };
-use spx_meaning::{Bad, BadKind, Scalar, lies_in, type_of};
+use spx_meaning::{Bad, BadKind, Value, lies_in, type_of};
 use spx_text::Place;
 use spx_tree::AssertionKind;
 use sqlite_items::Boxed;
 
 /// Gives a variable a value of its type.
-fn assign(
-    body: &Body,
-    store: &mut [Option<Scalar>],
-    place: Place,
-    var: VarId,
-    value: Scalar,
-) -> Step
+fn assign(body: &Body, store: &mut [Option<Value>], place: Place, var: VarId, value: Value) -> Step
     requires { var.0 < length store.old }
     ensures { assign body.now.program.now place (Some var) store.old value ≡ outcome_of result store.new }
 {
-    if lies_in(type_of(body.program, var), value) {
+    if lies_in(type_of(body.program, var), &value) {
         put(store, var, Some(value));
         Step::Ended
     } else {
@@ -45,12 +40,12 @@ fn assign(
     }
 }
 
-/// Runs an assignment. What is no variable takes no value. There is no memory yet for an assignment to a part.
+/// Runs an assignment. What is no variable takes no value.
 #[tactic(auto, using(crate::proofs::RunForms::run_forms))]
 fn run_assignment(
     body: &Body,
     turns: u64,
-    store: &mut [Option<Scalar>],
+    store: &mut [Option<Value>],
     target: &Target,
     expr: &CoreExpr,
 ) -> Result<Step, RunFault>
@@ -58,9 +53,9 @@ fn run_assignment(
     ensures { Done result store.new (ran (frame_of body.now) turns store.old (Set target.now expr.now)) }
 {
     if !target.way.is_empty() {
-        return Err(RunFault::Memory);
+        return assign_part(body, turns, store, target, expr);
     }
-    match eval(body, turns, store, expr) {
+    match eval_value(body, turns, store, expr) {
         Ok(value) => match variable_of(target.root.entity) {
             Some(var) => Ok(assign(body, store, expr.place(), var, value)),
             None => Ok(Step::Ended),
@@ -73,7 +68,7 @@ fn run_assignment(
 #[tactic(auto, using(crate::proofs::RunForms::looked_at_is))]
 pub(crate) fn look_at(
     body: &Body,
-    store: &[Option<Scalar>],
+    store: &[Option<Value>],
     kind: BadKind,
     place: Place,
     annotation: &CoreExpr,
@@ -102,7 +97,7 @@ fn untrue(kind: AssertionKind) -> BadKind
 fn run_exit(
     body: &Body,
     turns: u64,
-    store: &[Option<Scalar>],
+    store: &[Option<Value>],
     condition: &Option<Boxed<CoreExpr>>,
 ) -> Result<Step, RunFault>
     ensures { (place : Place) → Done result store.now (ran (frame_of body.now) turns store.now (exit_where place condition.now)) }
@@ -123,7 +118,7 @@ fn run_exit(
 pub(crate) fn run_stmts(
     body: &Body,
     turns: u64,
-    store: &mut [Option<Scalar>],
+    store: &mut [Option<Value>],
     stmts: &[CoreStmt],
 ) -> Result<Step, RunFault>
     requires { HasRoom (length store.old) (commands stmts.now) }
@@ -143,7 +138,7 @@ pub(crate) fn run_stmts(
 fn run_stmt(
     body: &Body,
     turns: u64,
-    store: &mut [Option<Scalar>],
+    store: &mut [Option<Value>],
     stmt: &CoreStmt,
 ) -> Result<Step, RunFault>
     requires { HasRoom (length store.old) (command stmt.now) }
@@ -185,7 +180,7 @@ fn run_stmt(
 fn run_arm(
     body: &Body,
     turns: u64,
-    store: &mut [Option<Scalar>],
+    store: &mut [Option<Value>],
     arms: &[CoreArm],
     k: usize,
 ) -> Result<Step, RunFault>
@@ -201,7 +196,7 @@ fn run_arm(
 fn run_case(
     body: &Body,
     turns: u64,
-    store: &mut [Option<Scalar>],
+    store: &mut [Option<Value>],
     alternatives: &[CoreAlternative],
     selector: &CoreExpr,
 ) -> Result<Step, RunFault>
@@ -211,9 +206,9 @@ fn run_case(
     if alternatives.is_empty() {
         return Ok(Step::Ended);
     }
-    match eval(body, turns, store, selector) {
+    match eval_value(body, turns, store, selector) {
         Ok(value) => {
-            let k = alternative_for(alternatives, value);
+            let k = alternative_for(alternatives, &value);
             run_stmts(body, turns, store, alternatives[k].body.as_slice())
         }
         Err(stop) => stop.step(),
@@ -225,7 +220,7 @@ fn run_case(
 fn run_loop(
     body: &Body,
     turns: u64,
-    store: &mut [Option<Scalar>],
+    store: &mut [Option<Value>],
     stmts: &[CoreStmt],
     scheme: &CoreScheme,
 ) -> Result<Step, RunFault>
@@ -245,7 +240,7 @@ fn run_loop(
 fn run_turns(
     body: &Body,
     turns: u64,
-    store: &mut [Option<Scalar>],
+    store: &mut [Option<Value>],
     stmts: &[CoreStmt],
     scheme: &CoreScheme,
 ) -> Result<Step, RunFault>
@@ -277,7 +272,7 @@ fn run_turns(
 fn run_for(
     body: &Body,
     turns: u64,
-    store: &mut [Option<Scalar>],
+    store: &mut [Option<Value>],
     stmts: &[CoreStmt],
     count: &CoreCount,
 ) -> Result<Step, RunFault>
@@ -305,7 +300,7 @@ fn run_for(
 fn run_count(
     body: &Body,
     turns: u64,
-    store: &mut [Option<Scalar>],
+    store: &mut [Option<Value>],
     stmts: &[CoreStmt],
     count: &CoreCount,
     way: Span,
@@ -318,7 +313,7 @@ fn run_count(
     let mut left = turns;
     while left > 0 {
         left -= 1;
-        put(store, count.parameter, Some(Scalar::number(value)));
+        put_number(store, count.parameter, value);
         let step = run_stmts(body, left, store, stmts)?;
         if !step.has_ended() {
             return Ok(step.past_loop());

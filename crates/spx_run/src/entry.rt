@@ -47,6 +47,7 @@ fn add_output(
     match store.get(var) {
         Some(value) => {
             let name = Text::new(alloc, var_name(program, var))?;
+            let value = value.copy(alloc)?;
             outputs.push(Output { name, value })
         }
         None => Ok(()),

@@ -10,7 +10,7 @@ ghost use Rattle.spx_run.specs.Mirror.{AreImports, ImportsAreDeclared, truth_wri
 use crate::inputs::{InputLine, InputValue};
 use crate::result::InputFinding;
 use spx_core::{Class, Program, Sub, Subtype, VarId, VarSet};
-use spx_meaning::{Scalar, Store, lies_in, type_of};
+use spx_meaning::{Store, Value, lies_in, type_of};
 use spx_text::{Place, Text};
 use sqlite_items::Items;
 use std::alloc::{AllocError, Global};
@@ -65,25 +65,25 @@ fn is_among(vars: &[VarId], var: VarId) -> bool
 // ---- values
 
 /// The truth value that a word is.
-fn truth_written(word: &[u8]) -> Option<Scalar>
+fn truth_written(word: &[u8]) -> Option<Value>
     ensures { result ≡ truth_written word.now }
 {
     if word.eq_ignore_ascii_case(b"true") {
-        Some(Scalar::truth(true))
+        Some(Value::Truth(true))
     } else if word.eq_ignore_ascii_case(b"false") {
-        Some(Scalar::truth(false))
+        Some(Value::Truth(false))
     } else {
         None
     }
 }
 
 /// The value of a class that is written.
-fn written(class: Class, value: &InputValue) -> Option<Scalar>
+fn written(class: Class, value: &InputValue) -> Option<Value>
     ensures { result ≡ spec.written class value.now }
 {
     match class {
         Class::Integer => match value {
-            InputValue::Number(number) => Some(Scalar::number(*number)),
+            InputValue::Number(number) => Some(Value::Number(*number)),
             InputValue::Word(_) => None,
         },
         Class::Boolean => match value {
@@ -95,11 +95,11 @@ fn written(class: Class, value: &InputValue) -> Option<Scalar>
 }
 
 /// The value that is written, if it is one of the type.
-fn typed(subtype: Subtype, value: &InputValue) -> Option<Scalar>
+fn typed(subtype: Subtype, value: &InputValue) -> Option<Value>
     ensures { result ≡ spec.typed subtype value.now }
 {
     let value = written(subtype.base.class, value)?;
-    if lies_in(subtype, value) {
+    if lies_in(subtype, &value) {
         Some(value)
     } else {
         None

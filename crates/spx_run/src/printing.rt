@@ -6,20 +6,22 @@ ghost use Rattle.spx_run.specs.Mirror.{name_line, place_line};
 ghost use Rattle.spx_run.specs.Results as spec;
 
 use crate::result::{InputFinding, Output};
-use spx_meaning::{Bad, BadKind, Literal, Scalar};
+use spx_meaning::{Bad, BadKind, Value};
 use spx_num::decimal;
 use spx_report::{place_text, spot_text};
 use spx_text::{Place, Text};
 use std::alloc::{AllocError, Global};
 
 /// A value in the form of an input.
-fn put_value(alloc: Global, out: &mut Vec<u8>, value: Scalar) -> Result<(), AllocError>
-    ensures { OnOk result (out.new.items ≡ out.old.items ++ spec.value_text value) }
+fn put_value(alloc: Global, out: &mut Vec<u8>, value: &Value) -> Result<(), AllocError>
+    ensures { OnOk result (out.new.items ≡ out.old.items ++ spec.value_text value.now) }
 {
-    match value.literal() {
-        Literal::Number(number) => out.extend_from_slice(decimal(alloc, number)?.as_slice()),
-        Literal::Truth(true) => out.extend_from_slice(b"True"),
-        Literal::Truth(false) => out.extend_from_slice(b"False"),
+    match value {
+        Value::Number(number) => out.extend_from_slice(decimal(alloc, *number)?.as_slice()),
+        Value::Truth(true) => out.extend_from_slice(b"True"),
+        Value::Truth(false) => out.extend_from_slice(b"False"),
+        Value::Elements(_, _) => Ok(()),
+        Value::Fields(_) => Ok(()),
     }
 }
 
@@ -30,7 +32,7 @@ fn put_output(alloc: Global, out: &mut Vec<u8>, output: &Output) -> Result<(), A
 {
     out.extend_from_slice(output.name.as_bytes())?;
     out.extend_from_slice(b" = ")?;
-    put_value(alloc, out, output.value)?;
+    put_value(alloc, out, &output.value)?;
     out.extend_from_slice(b"\n")
 }
 

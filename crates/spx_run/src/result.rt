@@ -4,7 +4,7 @@ ghost use Rattle.spx_text.specs.Loads.{names};
 ghost use Rattle.spx_run.specs.Results.{result_text};
 
 use crate::printing::{put_fault, put_findings, put_outputs, put_turns};
-use spx_meaning::{Bad, Scalar};
+use spx_meaning::{Bad, Value};
 use spx_report::{LimitName, verdict_text};
 use spx_text::{Place, Text};
 use sqlite_items::Items;
@@ -30,7 +30,7 @@ pub enum InputFinding {
 pub struct Output {
     /// The name as it is declared.
     pub name: Text,
-    pub value: Scalar,
+    pub value: Value,
 }
 
 /// What a run comes to.

@@ -3,7 +3,7 @@ ghost use Rattle.std.specs.Prelude.{◌≡◌, length, IfOk};
 
 use spx_core::{INTEGER, Mode, Program, Var, VarId, VarKind};
 use spx_interp::{Finish, elaborate};
-use spx_meaning::{Scalar, Store};
+use spx_meaning::{Store, Value, as_number, as_truth};
 use spx_text::Text;
 use sqlite_items::Items;
 use std::alloc::{AllocError, Global};
@@ -36,22 +36,38 @@ fn program(alloc: Global) -> Result<Program, AllocError>
     })
 }
 
+/// The number of a variable, if it is set.
+fn number_of(store: &Store, var: VarId) -> Option<i128> {
+    match store.get(var) {
+        Some(value) => Some(as_number(value)),
+        None => None,
+    }
+}
+
+/// The truth value of a variable, if it is set.
+fn truth_of(store: &Store, var: VarId) -> Option<bool> {
+    match store.get(var) {
+        Some(value) => Some(as_truth(value)),
+        None => None,
+    }
+}
+
 #[test]
 fn a_store_keeps_what_it_is_given(rt: HostRuntime) -> Result<(), Fail> {
     let alloc = rt.alloc();
     let mut store = Store::new(alloc, &program(alloc)?)?;
-    assert_eq!(rt; store.get(X), None);
-    assert_eq!(rt; store.get(Y), None);
-    store.set(X, Scalar::number(7));
-    assert_eq!(rt; store.get(X), Some(Scalar::number(7)));
-    assert_eq!(rt; store.get(Y), None);
+    assert_eq!(rt; number_of(&store, X), None);
+    assert_eq!(rt; truth_of(&store, Y), None);
+    store.set(X, Value::Number(7));
+    assert_eq!(rt; number_of(&store, X), Some(7));
+    assert_eq!(rt; truth_of(&store, Y), None);
     let copied = store.copy(alloc)?;
-    store.set(Y, Scalar::truth(true));
+    store.set(Y, Value::Truth(true));
     store.unset(X);
-    assert_eq!(rt; store.get(X), None);
-    assert_eq!(rt; store.get(Y), Some(Scalar::truth(true)));
-    assert_eq!(rt; copied.get(X), Some(Scalar::number(7)));
-    assert_eq!(rt; copied.get(Y), None);
+    assert_eq!(rt; number_of(&store, X), None);
+    assert_eq!(rt; truth_of(&store, Y), Some(true));
+    assert_eq!(rt; number_of(&copied, X), Some(7));
+    assert_eq!(rt; truth_of(&copied, Y), None);
     Ok(())
 }
 
@@ -60,7 +76,7 @@ fn variables_are_unset_at_the_beginning(rt: HostRuntime) -> Result<(), Fail> {
     let program = program(rt.alloc())?;
     match elaborate(rt.alloc(), &program, 0) {
         Ok((store, finish)) => {
-            assert_eq!(rt; store.get(X), None);
+            assert_eq!(rt; number_of(&store, X), None);
             assert_eq!(rt; finish, Finish::Ended);
         }
         Err(_) => assert!(rt; false),

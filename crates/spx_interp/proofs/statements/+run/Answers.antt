@@ -279,7 +279,7 @@ run_count-loop-left-preserved t c =
     let other : int_eq k end ≡ false = unequal k end (λ e. c.if-value-way.false (sym (of_z-to_z l.auto.value-fits) ∙ ap (of_z w128) e)) in (
       rw same (rw last at c.value_after-value.ensures.way),
       l.invariant.1
-          ∙ count_turns f count body end l.left left k l.store c.put.new.slots (omega arith) (c.put.ensures ∙ ap (λ (x : Value). put l.store count.parameter (Some x)) c.number.ensures)
+          ∙ count_turns f count body end l.left left k l.store c.put_number.new.slots (omega arith) c.put_number.ensures
           ∙ after_end (λ o. on_turn o (after_value f count body end left k)) _ c.in_ok-step.step s c.in_ok-step.ensures (sym c.has_ended.ensures ∙ c.if-not-has_ended.false)
           ∙ ap (λ b. if b then Some (Ended s) else ran_count f count body end left (value_after count k) s) other
           ∙ ap (λ v. ran_count f count body end left v s) (sym c.value_after-value.ensures.value ∙ sym same),
@@ -298,7 +298,7 @@ run_count-returns-then-value-way t c =
     let last : to_z w128 (of_z w128 end) ≡ end = search (rules, to_z-of_z) in
     let same : int_eq k end ≡ true = equal k end (ap (to_z w128) c.if-value-way.true ∙ last) in
     l.invariant.1
-    ∙ count_turns f count body end l.left left k l.store c.put.new.slots (omega arith) (c.put.ensures ∙ ap (λ (x : Value). put l.store count.parameter (Some x)) c.number.ensures)
+    ∙ count_turns f count body end l.left left k l.store c.put_number.new.slots (omega arith) c.put_number.ensures
     ∙ after_end (λ o. on_turn o (after_value f count body end left k)) _ c.in_ok-step.step s c.in_ok-step.ensures (sym c.has_ended.ensures ∙ c.if-not-has_ended.false)
     ∙ ap (λ b. if b then Some (Ended s) else ran_count f count body end left (value_after count k) s) same
 
@@ -313,7 +313,7 @@ run_count-returns-in_err-step t c =
     let end = c.args.way.last in
     let p = err_from_is_err_and c.from_residual.result c.from_residual.ensures.1 in
     refused (λ o. on_turn o (after_value f count body end left k)) c.in_err-step.field-0.0 c.from_residual.result c.run_stmts.new.store c.run_stmts.new.store _ _ refl (p.1 ∙ ap Err p.2) c.in_err-step.ensures
-    (l.invariant.1 ∙ count_turns f count body end l.left left k l.store c.put.new.slots (omega arith) (c.put.ensures ∙ ap (λ (x : Value). put l.store count.parameter (Some x)) c.number.ensures))
+    (l.invariant.1 ∙ count_turns f count body end l.left left k l.store c.put_number.new.slots (omega arith) c.put_number.ensures)
 
 pub run_count-returns-then-not-has_ended : goal.run_count-returns-then-not-has_ended
 run_count-returns-then-not-has_ended t c =
@@ -326,7 +326,7 @@ run_count-returns-then-not-has_ended t c =
     let end = c.args.way.last in
     let s = c.run_stmts.new.store in
     l.invariant.1
-    ∙ count_turns f count body end l.left left k l.store c.put.new.slots (omega arith) (c.put.ensures ∙ ap (λ (x : Value). put l.store count.parameter (Some x)) c.number.ensures)
+    ∙ count_turns f count body end l.left left k l.store c.put_number.new.slots (omega arith) c.put_number.ensures
     ∙ turn_leaves _ c.in_ok-step.step s (after_value f count body end left k) c.in_ok-step.ensures (sym c.has_ended.ensures ∙ c.if-not-has_ended.true)
     ∙ ap (λ r. Some (outcome_of r s)) (sym c.past_loop.ensures)
 
