@@ -22,7 +22,6 @@ use Rattle.spx_interp.specs.declared.stop.Stop.{Stop}
 use Rattle.spx_interp.specs.declared.stop.Stop.TheVariants as stop
 use Rattle.spx_interp.specs.Results.{Done, ran, stopped}
 use Rattle.spx_interp.specs.Ways.{OnValue, OnWay, part_set}
-use Rattle.spx_interp.specs.declared.parts.PlacedStep.{PlacedStep}
 
 -- what is put last counts
 pub put_again : (s : Store) (v : VarId) (x y : Option Value) → put (put s v x) v y ≡ put s v y

@@ -6,10 +6,8 @@ use Rattle.spx_core.specs.declared.entity.Class.TheVariants as class
 use Rattle.spx_core.specs.declared.entity.Subtype.{Subtype}
 use Rattle.spx_core.specs.declared.program.Field.{Field}
 use Rattle.spx_core.specs.declared.program.Program.{Program}
-use Rattle.spx_core.specs.declared.program.TypeForm.{TypeForm}
 use Rattle.spx_core.specs.declared.program.TypeForm.TheVariants.{Scalar, Array, Record}
 use Rattle.spx_core.specs.declared.program.TypeRow.{TypeRow}
-use Rattle.spx_term.specs.declared.term.Component.{Component}
 use Rattle.spx_term.specs.declared.value.Shape.{Shape, Shape-F, out-Shape, map-Shape, fold_out-Shape}
 use Rattle.spx_term.specs.declared.value.Shape.TheVariants as shape
 use Rattle.spx_term.specs.declared.value.Value.{Value}

@@ -3,7 +3,6 @@ use Rattle.spx_core.specs.declared.part.PartStep.{PartStep}
 use Rattle.spx_core.specs.declared.entity.TheConstants.{UNIVERSAL}
 use Rattle.spx_core.specs.Judged.{part_type}
 use Rattle.spx_core.specs.Places.{place_of}
-use Rattle.spx_term.specs.declared.value.Value.{Value}
 use Rattle.spx_meaning.specs.Evaluation.{eval, in_part, with_value, with_way}
 use Rattle.spx_meaning.specs.Stores.{types_of}
 use Rattle.spx_interp.specs.declared.parts.PlacedStep.{PlacedStep}

@@ -12,7 +12,6 @@ use Rattle.spx_core.specs.declared.statement.CoreArm.{CoreArm}
 use Rattle.spx_core.specs.declared.statement.CoreStmt.{CoreStmt}
 use Rattle.spx_core.specs.Commands.{Repeat, Skip, arm_before, arms_before, command, commands, head_of}
 use Rattle.spx_core.proofs.Callers.CommandForms.{command-Assertion, command-Case, command-If, command-If-else, command-Null}
-use Rattle.spx_term.specs.declared.value.Value.{Value}
 use Rattle.spx_meaning.specs.Runs.{Ended, value_after}
 use Rattle.spx_meaning.specs.Stores.{put}
 use Rattle.spx_interp.specs.Results.{Done, OnArm, arm_at, frame_of, looked_at, outcome_of, ran, ran_count}

@@ -2,7 +2,7 @@ use Rattle.std.proofs.Common.{FitsSigned, List, get_or, rules, arith, ap, ◌∙
 use Rattle.std.specs.Int.{w128}
 use Rattle.std.proofs.lemmas.Int.{to_z-of_z}
 use Rattle.spx_term.specs.declared.value.Value.{Value}
-use Rattle.spx_meaning.proofs.PartValues.{Misses, element_is, element_stays, no_element}
+use Rattle.spx_meaning.proofs.PartValues.{element_is, element_stays, no_element}
 use Rattle.spx_meaning.proofs.values.element_of.Goals as goal
 
 pub returns-in-Some-clause-there : goal.returns-in-Some-clause-there

@@ -1,7 +1,6 @@
 use Rattle.std.proofs.Common.{FitsSigned, rules, ap, sym, ◌∙◌}
 use Rattle.std.specs.Int.{w128}
 use Rattle.std.proofs.lemmas.Int.{to_z-of_z}
-use Rattle.spx_term.specs.declared.value.Value.{Value}
 use Rattle.spx_term.specs.declared.value.Value.TheVariants.{Elements}
 use Rattle.spx_meaning.proofs.PartValues.{element_stays}
 use Rattle.spx_meaning.proofs.values.with_element.Goals as goal
