@@ -12,6 +12,10 @@ use spx_term::Value;
 use sqlite_items::Items;
 use std::alloc::{AllocError, Global};
 
+/// The most levels of a first value, since each of them takes room on the stack. A value with more counts as one for which memory
+/// runs out.
+const MOST_VALUE_LEVELS: u32 = 2000;
+
 /// An array of these indexes, each of whose elements has this value.
 fn array_of(alloc: Global, index: &Subtype, element: &Value) -> Result<Value, AllocError>
     ensures { IfOk result (λ value. value ≡ Elements index.now.first (replicate (values.count index.now.first index.now.last) element.now)) }
@@ -27,6 +31,7 @@ fn first_before(
     program: &Program,
     size: usize,
     subtype: Subtype,
+    room: u32,
 ) -> Result<Value, AllocError>
     requires { size ≤ length program.now.types }
     ensures { IfOk result (λ value. value ≡ first_value (types_before program.now size) subtype) }
@@ -34,7 +39,7 @@ fn first_before(
     match subtype.base.class {
         Class::Integer | Class::Enumeration => Ok(Value::Number(subtype.first)),
         Class::Boolean => Ok(Value::Truth(false)),
-        Class::Composite => first_composite(alloc, program, size, subtype.base.id),
+        Class::Composite => first_composite(alloc, program, size, subtype.base.id, room),
     }
 }
 
@@ -45,6 +50,7 @@ fn first_composite(
     program: &Program,
     size: usize,
     id: TypeId,
+    room: u32,
 ) -> Result<Value, AllocError>
     requires { size ≤ length program.now.types }
     ensures { IfOk result (λ value. value ≡ values.first_value (types_before program.now size id.0)) }
@@ -52,15 +58,18 @@ fn first_composite(
     if id.0 >= size {
         return Ok(Value::Number(0));
     }
+    if room == 0 {
+        return Err(AllocError);
+    }
     let row = &program.types.as_slice()[id.0];
     match &row.form {
-        TypeForm::Scalar => first_before(alloc, program, id.0, row.subtype),
+        TypeForm::Scalar => first_before(alloc, program, id.0, row.subtype, room - 1),
         TypeForm::Array(index, element) => {
-            let element = first_before(alloc, program, id.0, *element.get())?;
+            let element = first_before(alloc, program, id.0, *element.get(), room - 1)?;
             array_of(alloc, index.get(), &element)
         }
         TypeForm::Record(fields) => {
-            let fields = first_fields(alloc, program, id.0, fields.as_slice())?;
+            let fields = first_fields(alloc, program, id.0, fields.as_slice(), room - 1)?;
             Ok(Value::Fields(fields))
         }
     }
@@ -73,13 +82,14 @@ fn first_fields(
     program: &Program,
     size: usize,
     fields: &[Field],
+    room: u32,
 ) -> Result<Items<Value>, AllocError>
     requires { size ≤ length program.now.types }
     ensures { IfOk result (λ found. found ≡ map (λ (field : Field). first_value (types_before program.now size) field.subtype) fields.now) }
 {
     let mut found = Items::new(alloc);
     for field in fields {
-        found.push(first_before(alloc, program, size, field.subtype)?)?;
+        found.push(first_before(alloc, program, size, field.subtype, room)?)?;
     }
     Ok(found)
 }
@@ -89,5 +99,5 @@ fn first_fields(
 pub fn first_value(alloc: Global, program: &Program, subtype: Subtype) -> Result<Value, AllocError>
     ensures { IfOk result (λ value. value ≡ first_value (types_of program.now) subtype) }
 {
-    first_before(alloc, program, program.types.len(), subtype)
+    first_before(alloc, program, program.types.len(), subtype, MOST_VALUE_LEVELS)
 }
