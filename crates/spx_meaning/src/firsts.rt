@@ -99,5 +99,11 @@ fn first_fields(
 pub fn first_value(alloc: Global, program: &Program, subtype: Subtype) -> Result<Value, AllocError>
     ensures { IfOk result (λ value. value ≡ first_value (types_of program.now) subtype) }
 {
-    first_before(alloc, program, program.types.len(), subtype, MOST_VALUE_LEVELS)
+    first_before(
+        alloc,
+        program,
+        program.types.len(),
+        subtype,
+        MOST_VALUE_LEVELS,
+    )
 }
