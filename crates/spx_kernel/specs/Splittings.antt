@@ -7,7 +7,9 @@ use Rattle.spx_term.specs.declared.term.BinaryOp.TheVariants as binary
 use Rattle.spx_term.specs.declared.term.TernaryOp.{TernaryOp}
 use Rattle.spx_term.specs.declared.term.TernaryOp.TheVariants as ternary
 use Rattle.spx_term.specs.declared.term.Term.{Term}
-use Rattle.spx_term.specs.declared.term.Term.TheVariants.{Number, Infix, Binary, Ternary}
+use Rattle.spx_term.specs.declared.term.Term.TheVariants.{Number, Prefix, Infix, Unary, Binary, Ternary}
+use Rattle.spx_kernel.specs.declared.element.Around.{Around}
+use Rattle.spx_kernel.specs.declared.element.Around.TheVariants as around
 use Rattle.spx_kernel.specs.declared.element.Splitting.{Splitting}
 use Rattle.spx_kernel.specs.Sequents.{Answer, refused, with_hyp, with_goal}
 use Rattle.spx_kernel.specs.Elements.{Spot, read_here, spot_of}
@@ -19,6 +21,18 @@ of_spot (Some s) =
     let r = s.reading in
     Some (record { indexes = record { array = r.array; index = r.index; at = r.at }; equal = s.around r.item; unequal = s.around (Binary (binary.Element r.array) r.of r.at) })
 of_spot None = None
+
+-- the whole term with another part in it
+abbrev pub filled : Around → Term → Term
+filled (around.Prefix op) = λ part. Prefix op part
+filled (around.Unary op) = λ part. Unary op part
+filled (around.Left op right) = λ part. Infix op part right.now
+filled (around.Right op left) = λ part. Infix op left.now part
+filled (around.Former op right) = λ part. Binary op part right.now
+filled (around.Latter op left) = λ part. Binary op left.now part
+filled (around.Before id index item) = λ part. Ternary (ternary.Update id) part index.now item.now
+filled (around.Index id before item) = λ part. Ternary (ternary.Update id) before.now part item.now
+filled (around.Item id before index) = λ part. Ternary (ternary.Update id) before.now index.now part
 
 -- the same with more around both goals
 abbrev pub wrap : (Term → Term) → Option Splitting → Option Splitting

@@ -7,7 +7,7 @@ ghost use Rattle.spx_term.specs.declared.term.Term.{out-Term};
 ghost use Rattle.spx_term.specs.declared.term.Term.TheVariants as term;
 ghost use Rattle.spx_kernel.specs.Changes.{Leaves, change_goal};
 ghost use Rattle.spx_kernel.specs.Elements.{spot_of, updated_in};
-ghost use Rattle.spx_kernel.specs.Splittings.{of_spot, wrap, either, ordered, read, splitting, in_ternary, prints_second_first};
+ghost use Rattle.spx_kernel.specs.Splittings.{of_spot, filled, wrap, either, ordered, read, splitting, in_ternary, prints_second_first};
 ghost use Rattle.spx_kernel.specs.Steps.{in_range, elem_at};
 
 use crate::StepFault;
@@ -66,373 +66,94 @@ fn found(
 
 // ---- around a part
 
-/// With an operator before it.
-fn in_prefix(alloc: Global, op: TermPrefix, part: Found) -> Result<Found, AllocError>
-    ensures { IfOk result (λ r. r ≡ wrap (term.Prefix op) part) }
+/// What is around a part of a term, with the other parts.
+#[derive(Clone, Copy)]
+pub(crate) enum Around<'a> {
+    /// An operator before it.
+    Prefix(TermPrefix),
+    /// An operation on it, and on no other term.
+    Unary(UnaryOp),
+    /// An operation whose left operand it is, and the right one.
+    Left(TermOp, &'a Term),
+    /// An operation whose right operand it is, and the left one.
+    Right(TermOp, &'a Term),
+    /// An operation on a composite value, which it is, and the other term.
+    Former(BinaryOp, &'a Term),
+    /// An operation on a composite value, and that value.
+    Latter(BinaryOp, &'a Term),
+    /// An updated array of this type, whose array before it is; the index and the new element.
+    Before(usize, &'a Term, &'a Term),
+    /// An updated array whose index it is; the array before and the new element.
+    Index(usize, &'a Term, &'a Term),
+    /// An updated array whose new element it is; the array before and the index.
+    Item(usize, &'a Term, &'a Term),
+}
+
+/// The whole term with this part in it.
+fn fill(alloc: Global, around: Around<'_>, part: Boxed<Term>) -> Result<Boxed<Term>, AllocError>
+    ensures { IfOk result (λ t. t ≡ filled around.entry part) }
 {
-    match part {
-        Some(part) => around_prefix(alloc, op, part),
-        None => Ok(None),
+    match around {
+        Around::Prefix(op) => boxed_prefix(alloc, op, part),
+        Around::Unary(op) => boxed_unary(alloc, op, part),
+        Around::Left(op, right) => boxed_infix(alloc, op, part, boxed_copy(alloc, right)?),
+        Around::Right(op, left) => boxed_infix(alloc, op, boxed_copy(alloc, left)?, part),
+        Around::Former(op, right) => boxed_binary(alloc, op, part, boxed_copy(alloc, right)?),
+        Around::Latter(op, left) => boxed_binary(alloc, op, boxed_copy(alloc, left)?, part),
+        Around::Before(id, index, item) => {
+            let index = boxed_copy(alloc, index)?;
+            update(alloc, id, part, index, boxed_copy(alloc, item)?)
+        }
+        Around::Index(id, before, item) => {
+            let before = boxed_copy(alloc, before)?;
+            update(alloc, id, before, part, boxed_copy(alloc, item)?)
+        }
+        Around::Item(id, before, index) => {
+            let before = boxed_copy(alloc, before)?;
+            update(alloc, id, before, boxed_copy(alloc, index)?, part)
+        }
     }
 }
 
-/// The same where there is one.
-fn around_prefix(alloc: Global, op: TermPrefix, part: Boxed<Splitting>) -> Result<Found, AllocError>
-    ensures { IfOk result (λ r. r ≡ wrap (term.Prefix op) (Some part)) }
-{
-    let Splitting {
-        indexes,
-        equal,
-        unequal,
-    } = part.into_inner();
-    let equal = boxed_prefix(alloc, op, equal)?;
-    let unequal = boxed_prefix(alloc, op, unequal)?;
-    found(alloc, indexes, equal, unequal)
-}
-
-/// With an operation on one term around it.
-fn in_unary(alloc: Global, op: UnaryOp, part: Found) -> Result<Found, AllocError>
-    ensures { IfOk result (λ r. r ≡ wrap (term.Unary op) part) }
-{
-    match part {
-        Some(part) => around_unary(alloc, op, part),
-        None => Ok(None),
-    }
-}
-
-/// The same where there is one.
-fn around_unary(alloc: Global, op: UnaryOp, part: Boxed<Splitting>) -> Result<Found, AllocError>
-    ensures { IfOk result (λ r. r ≡ wrap (term.Unary op) (Some part)) }
-{
-    let Splitting {
-        indexes,
-        equal,
-        unequal,
-    } = part.into_inner();
-    let equal = boxed_unary(alloc, op, equal)?;
-    let unequal = boxed_unary(alloc, op, unequal)?;
-    found(alloc, indexes, equal, unequal)
-}
-
-/// An operation, of which this is the left operand.
-fn left_of_infix(
+/// An updated array.
+fn update(
     alloc: Global,
-    op: TermOp,
-    right: &Term,
-    part: Boxed<Term>,
+    id: usize,
+    before: Boxed<Term>,
+    index: Boxed<Term>,
+    item: Boxed<Term>,
 ) -> Result<Boxed<Term>, AllocError>
-    ensures { IfOk result (λ t. t ≡ term.Infix op part right.now) }
+    ensures { IfOk result (λ t. t ≡ term.Ternary (ternary.Update id) before index item) }
 {
-    let right = boxed_copy(alloc, right)?;
-    boxed_infix(alloc, op, part, right)
+    boxed_ternary(alloc, TernaryOp::Update(id), before, index, item)
 }
 
-/// With the right operand of an operation beside it.
-fn in_left(alloc: Global, op: TermOp, right: &Term, part: Found) -> Result<Found, AllocError>
-    ensures { IfOk result (λ r. r ≡ wrap (λ x. term.Infix op x right.now) part) }
-{
-    match part {
-        Some(part) => around_left(alloc, op, right, part),
-        None => Ok(None),
-    }
-}
-
-/// The same where there is one.
-fn around_left(
+/// Both goals, with what is around the part in which the element is.
+fn around_part(
     alloc: Global,
-    op: TermOp,
-    right: &Term,
+    around: Around<'_>,
     part: Boxed<Splitting>,
 ) -> Result<Found, AllocError>
-    ensures { IfOk result (λ r. r ≡ wrap (λ x. term.Infix op x right.now) (Some part)) }
+    ensures { IfOk result (λ r. r ≡ wrap (filled around.entry) (Some part)) }
 {
     let Splitting {
         indexes,
         equal,
         unequal,
     } = part.into_inner();
-    let equal = left_of_infix(alloc, op, right, equal)?;
-    let unequal = left_of_infix(alloc, op, right, unequal)?;
+    let equal = fill(alloc, around, equal)?;
+    let unequal = fill(alloc, around, unequal)?;
     found(alloc, indexes, equal, unequal)
 }
 
-/// An operation, of which this is the right operand.
-fn right_of_infix(
-    alloc: Global,
-    op: TermOp,
-    left: &Term,
-    part: Boxed<Term>,
-) -> Result<Boxed<Term>, AllocError>
-    ensures { IfOk result (λ t. t ≡ term.Infix op left.now part) }
-{
-    let left = boxed_copy(alloc, left)?;
-    boxed_infix(alloc, op, left, part)
-}
-
-/// With the left operand of an operation beside it.
-fn in_right(alloc: Global, op: TermOp, left: &Term, part: Found) -> Result<Found, AllocError>
-    ensures { IfOk result (λ r. r ≡ wrap (term.Infix op left.now) part) }
+/// The same where there is such an element.
+fn in_part(alloc: Global, around: Around<'_>, part: Found) -> Result<Found, AllocError>
+    ensures { IfOk result (λ r. r ≡ wrap (filled around.entry) part) }
 {
     match part {
-        Some(part) => around_right(alloc, op, left, part),
+        Some(part) => around_part(alloc, around, part),
         None => Ok(None),
     }
-}
-
-/// The same where there is one.
-fn around_right(
-    alloc: Global,
-    op: TermOp,
-    left: &Term,
-    part: Boxed<Splitting>,
-) -> Result<Found, AllocError>
-    ensures { IfOk result (λ r. r ≡ wrap (term.Infix op left.now) (Some part)) }
-{
-    let Splitting {
-        indexes,
-        equal,
-        unequal,
-    } = part.into_inner();
-    let equal = right_of_infix(alloc, op, left, equal)?;
-    let unequal = right_of_infix(alloc, op, left, unequal)?;
-    found(alloc, indexes, equal, unequal)
-}
-
-/// An operation on a composite value and another term, of which this is the former.
-fn left_of_binary(
-    alloc: Global,
-    op: BinaryOp,
-    right: &Term,
-    part: Boxed<Term>,
-) -> Result<Boxed<Term>, AllocError>
-    ensures { IfOk result (λ t. t ≡ term.Binary op part right.now) }
-{
-    let right = boxed_copy(alloc, right)?;
-    boxed_binary(alloc, op, part, right)
-}
-
-/// With the other term of an operation on a composite value beside it.
-fn in_former(alloc: Global, op: BinaryOp, right: &Term, part: Found) -> Result<Found, AllocError>
-    ensures { IfOk result (λ r. r ≡ wrap (λ x. term.Binary op x right.now) part) }
-{
-    match part {
-        Some(part) => around_former(alloc, op, right, part),
-        None => Ok(None),
-    }
-}
-
-/// The same where there is one.
-fn around_former(
-    alloc: Global,
-    op: BinaryOp,
-    right: &Term,
-    part: Boxed<Splitting>,
-) -> Result<Found, AllocError>
-    ensures { IfOk result (λ r. r ≡ wrap (λ x. term.Binary op x right.now) (Some part)) }
-{
-    let Splitting {
-        indexes,
-        equal,
-        unequal,
-    } = part.into_inner();
-    let equal = left_of_binary(alloc, op, right, equal)?;
-    let unequal = left_of_binary(alloc, op, right, unequal)?;
-    found(alloc, indexes, equal, unequal)
-}
-
-/// An operation on a composite value and another term, of which this is the latter.
-fn right_of_binary(
-    alloc: Global,
-    op: BinaryOp,
-    left: &Term,
-    part: Boxed<Term>,
-) -> Result<Boxed<Term>, AllocError>
-    ensures { IfOk result (λ t. t ≡ term.Binary op left.now part) }
-{
-    let left = boxed_copy(alloc, left)?;
-    boxed_binary(alloc, op, left, part)
-}
-
-/// With the composite value of an operation on it beside it.
-fn in_latter(alloc: Global, op: BinaryOp, left: &Term, part: Found) -> Result<Found, AllocError>
-    ensures { IfOk result (λ r. r ≡ wrap (term.Binary op left.now) part) }
-{
-    match part {
-        Some(part) => around_latter(alloc, op, left, part),
-        None => Ok(None),
-    }
-}
-
-/// The same where there is one.
-fn around_latter(
-    alloc: Global,
-    op: BinaryOp,
-    left: &Term,
-    part: Boxed<Splitting>,
-) -> Result<Found, AllocError>
-    ensures { IfOk result (λ r. r ≡ wrap (term.Binary op left.now) (Some part)) }
-{
-    let Splitting {
-        indexes,
-        equal,
-        unequal,
-    } = part.into_inner();
-    let equal = right_of_binary(alloc, op, left, equal)?;
-    let unequal = right_of_binary(alloc, op, left, unequal)?;
-    found(alloc, indexes, equal, unequal)
-}
-
-/// An updated array, of which this is the array before.
-fn first_of_update(
-    alloc: Global,
-    id: usize,
-    second: &Term,
-    third: &Term,
-    part: Boxed<Term>,
-) -> Result<Boxed<Term>, AllocError>
-    ensures { IfOk result (λ t. t ≡ term.Ternary (ternary.Update id) part second.now third.now) }
-{
-    let second = boxed_copy(alloc, second)?;
-    let third = boxed_copy(alloc, third)?;
-    boxed_ternary(alloc, TernaryOp::Update(id), part, second, third)
-}
-
-/// With the index and the new element of an updated array beside it.
-fn in_first(
-    alloc: Global,
-    id: usize,
-    second: &Term,
-    third: &Term,
-    part: Found,
-) -> Result<Found, AllocError>
-    ensures { IfOk result (λ r. r ≡ wrap (λ x. term.Ternary (ternary.Update id) x second.now third.now) part) }
-{
-    match part {
-        Some(part) => around_first(alloc, id, second, third, part),
-        None => Ok(None),
-    }
-}
-
-/// The same where there is one.
-fn around_first(
-    alloc: Global,
-    id: usize,
-    second: &Term,
-    third: &Term,
-    part: Boxed<Splitting>,
-) -> Result<Found, AllocError>
-    ensures { IfOk result (λ r. r ≡ wrap (λ x. term.Ternary (ternary.Update id) x second.now third.now) (Some part)) }
-{
-    let Splitting {
-        indexes,
-        equal,
-        unequal,
-    } = part.into_inner();
-    let equal = first_of_update(alloc, id, second, third, equal)?;
-    let unequal = first_of_update(alloc, id, second, third, unequal)?;
-    found(alloc, indexes, equal, unequal)
-}
-
-/// An updated array, of which this is the index.
-fn second_of_update(
-    alloc: Global,
-    id: usize,
-    first: &Term,
-    third: &Term,
-    part: Boxed<Term>,
-) -> Result<Boxed<Term>, AllocError>
-    ensures { IfOk result (λ t. t ≡ term.Ternary (ternary.Update id) first.now part third.now) }
-{
-    let first = boxed_copy(alloc, first)?;
-    let third = boxed_copy(alloc, third)?;
-    boxed_ternary(alloc, TernaryOp::Update(id), first, part, third)
-}
-
-/// With the array before and the new element of an updated array beside it.
-fn in_second(
-    alloc: Global,
-    id: usize,
-    first: &Term,
-    third: &Term,
-    part: Found,
-) -> Result<Found, AllocError>
-    ensures { IfOk result (λ r. r ≡ wrap (λ x. term.Ternary (ternary.Update id) first.now x third.now) part) }
-{
-    match part {
-        Some(part) => around_second(alloc, id, first, third, part),
-        None => Ok(None),
-    }
-}
-
-/// The same where there is one.
-fn around_second(
-    alloc: Global,
-    id: usize,
-    first: &Term,
-    third: &Term,
-    part: Boxed<Splitting>,
-) -> Result<Found, AllocError>
-    ensures { IfOk result (λ r. r ≡ wrap (λ x. term.Ternary (ternary.Update id) first.now x third.now) (Some part)) }
-{
-    let Splitting {
-        indexes,
-        equal,
-        unequal,
-    } = part.into_inner();
-    let equal = second_of_update(alloc, id, first, third, equal)?;
-    let unequal = second_of_update(alloc, id, first, third, unequal)?;
-    found(alloc, indexes, equal, unequal)
-}
-
-/// An updated array, of which this is the new element.
-fn third_of_update(
-    alloc: Global,
-    id: usize,
-    first: &Term,
-    second: &Term,
-    part: Boxed<Term>,
-) -> Result<Boxed<Term>, AllocError>
-    ensures { IfOk result (λ t. t ≡ term.Ternary (ternary.Update id) first.now second.now part) }
-{
-    let first = boxed_copy(alloc, first)?;
-    let second = boxed_copy(alloc, second)?;
-    boxed_ternary(alloc, TernaryOp::Update(id), first, second, part)
-}
-
-/// With the array before and the index of an updated array beside it.
-fn in_third(
-    alloc: Global,
-    id: usize,
-    first: &Term,
-    second: &Term,
-    part: Found,
-) -> Result<Found, AllocError>
-    ensures { IfOk result (λ r. r ≡ wrap (term.Ternary (ternary.Update id) first.now second.now) part) }
-{
-    match part {
-        Some(part) => around_third(alloc, id, first, second, part),
-        None => Ok(None),
-    }
-}
-
-/// The same where there is one.
-fn around_third(
-    alloc: Global,
-    id: usize,
-    first: &Term,
-    second: &Term,
-    part: Boxed<Splitting>,
-) -> Result<Found, AllocError>
-    ensures { IfOk result (λ r. r ≡ wrap (term.Ternary (ternary.Update id) first.now second.now) (Some part)) }
-{
-    let Splitting {
-        indexes,
-        equal,
-        unequal,
-    } = part.into_inner();
-    let equal = third_of_update(alloc, id, first, second, equal)?;
-    let unequal = third_of_update(alloc, id, first, second, unequal)?;
-    found(alloc, indexes, equal, unequal)
 }
 
 // ---- the first element
@@ -545,19 +266,19 @@ fn split(alloc: Global, term: &Term, room: u32) -> Result<Found, AllocError>
         Term::Blank(_) => Ok(None),
         Term::Prefix(op, operand) => {
             let part = split(alloc, operand.get(), room - 1)?;
-            in_prefix(alloc, *op, part)
+            in_part(alloc, Around::Prefix(*op), part)
         }
         Term::Infix(op, left, right) => {
             let part = split(alloc, left.get(), room - 1)?;
             if let Some(part) = part {
-                return around_left(alloc, *op, right.get(), part);
+                return around_part(alloc, Around::Left(*op, right.get()), part);
             }
             let part = split(alloc, right.get(), room - 1)?;
-            in_right(alloc, *op, left.get(), part)
+            in_part(alloc, Around::Right(*op, left.get()), part)
         }
         Term::Unary(op, operand) => {
             let part = split(alloc, operand.get(), room - 1)?;
-            in_unary(alloc, *op.get(), part)
+            in_part(alloc, Around::Unary(*op.get()), part)
         }
         Term::Binary(op, left, right) => {
             split_binary(alloc, left.get(), *op.get(), right.get(), room - 1)
@@ -587,16 +308,16 @@ fn split_binary(
     }
     if prints_second_first(op) {
         if let Some(part) = split(alloc, right, room)? {
-            return around_latter(alloc, op, left, part);
+            return around_part(alloc, Around::Latter(op, left), part);
         }
         let part = split(alloc, left, room)?;
-        return in_former(alloc, op, right, part);
+        return in_part(alloc, Around::Former(op, right), part);
     }
     if let Some(part) = split(alloc, left, room)? {
-        return around_former(alloc, op, right, part);
+        return around_part(alloc, Around::Former(op, right), part);
     }
     let part = split(alloc, right, room)?;
-    in_latter(alloc, op, left, part)
+    in_part(alloc, Around::Latter(op, left), part)
 }
 
 /// The same of an updated array.
@@ -612,13 +333,13 @@ fn split_update(
     ensures { IfOk result (λ r. r ≡ in_ternary (ternary.Update id) first.now second.now third.now) }
 {
     if let Some(part) = split(alloc, first, room)? {
-        return around_first(alloc, id, second, third, part);
+        return around_part(alloc, Around::Before(id, second, third), part);
     }
     if let Some(part) = split(alloc, second, room)? {
-        return around_second(alloc, id, first, third, part);
+        return around_part(alloc, Around::Index(id, first, third), part);
     }
     let part = split(alloc, third, room)?;
-    in_third(alloc, id, first, second, part)
+    in_part(alloc, Around::Item(id, first, second), part)
 }
 
 // ---- the step
