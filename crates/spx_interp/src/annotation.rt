@@ -9,13 +9,14 @@ ghost use Rattle.spx_interp.specs.Results.{Computes, frame_of};
 use crate::body::Body;
 use crate::evaluation::{first_in, last_in};
 use crate::fault::RunFault;
+use crate::firsts::first_value;
 use crate::operand::Operand;
 use crate::operations::{applied, mapped, member, signed};
 use crate::parts::{PlacedStep, part};
 use crate::slots::look;
 use crate::stop::fitting;
 use spx_core::{CoreExpr, Indexing, Program, Selection, VarId, variable_of};
-use spx_meaning::{Value, first_value, type_of};
+use spx_meaning::{Value, type_of};
 use spx_static::literal;
 use std::alloc::Global;
 

@@ -13,6 +13,7 @@ mod choices;
 mod entry;
 mod evaluation;
 mod fault;
+mod firsts;
 mod heads;
 mod numbers;
 mod operand;

@@ -7,9 +7,10 @@ ghost use Rattle.spx_term.specs.Parts.{part_of, with_end, with_part};
 ghost use Rattle.spx_meaning.specs.Stores.{types_of};
 ghost use Rattle.spx_interp.specs.Ways.{absent_part, step_of};
 
+use crate::firsts::first_value;
 use crate::operand::Operand;
 use spx_core::{Indexing, Program, Selection};
-use spx_meaning::{Value, element_of, field_of, first_value, with_element, with_field};
+use spx_meaning::{Value, element_of, field_of, with_element, with_field};
 use std::alloc::{AllocError, Global};
 
 /// A step to a part, with the value of its index.
