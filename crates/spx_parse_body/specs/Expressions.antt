@@ -111,6 +111,10 @@ with_part parts t = record { names = parts.names; exprs = parts.exprs ++ t.expr 
 abbrev pub with_named : Parts → Identifier × Tall → Parts
 with_named parts x = record { names = parts.names ++ x.0 ∷ []; exprs = parts.exprs ++ x.1.expr ∷ []; height = max parts.height (x.1.height + 1) }
 
+-- arguments of one expression, and this
+abbrev pub one_part : Tall → Arguments × Parts
+one_part t = (arguments_as.Positional 1, with_part no_parts t)
+
 -- arguments that are named, and their expressions
 abbrev pub all_named : Parts → Arguments × Parts
 all_named parts = (arguments_as.Named parts.names, record { names = []; exprs = parts.exprs; height = parts.height })
@@ -156,16 +160,13 @@ module _ (marked : Bool) (below : Layer → Reader Tall) (levels : ℕ) where
   unfoldable pub more_parts : Parts → Reader Parts
   more_parts parts = loop (sees marked k.Comma) part_step parts
 
-  -- "=>" expression, for a formal
-  unfoldable pub association : Identifier → Reader (Identifier × Tall)
-  association name = do
-    expect marked k.Arrow
-    t ← below layer.Expression
-    pure (name, t)
+  -- "=>" expression
+  unfoldable pub association : Reader Tall
+  association = expect marked k.Arrow >> below layer.Expression
 
   -- identifier "=>" expression
   unfoldable pub named_part : Reader (Identifier × Tall)
-  named_part = identifier marked >>= association
+  named_part = identifier marked >>= λ name. association >>= λ t. pure (name, t)
 
   -- "," identifier "=>" expression
   abbrev pub named_step : Parts → Bool → Option (Reader Parts)
@@ -182,17 +183,17 @@ module _ (marked : Bool) (below : Layer → Reader Tall) (levels : ℕ) where
 
   -- the arguments after their first formal
   unfoldable pub named : Identifier → Reader (Arguments × Parts)
-  named name = association name >>= λ x. more_named (with_named no_parts x) >>= λ parts. pure (all_named parts)
+  named name = association >>= λ t. more_named (with_named no_parts (name, t)) >>= λ parts. pure (all_named parts)
 
-  abbrev pub named_by : Option Identifier → Reader (Arguments × Parts)
-  named_by None = refuse
-  named_by (Some name) = named name
+  abbrev pub named_by : Tall → Option Identifier → Reader (Arguments × Parts)
+  named_by first None = pure (one_part first)
+  named_by first (Some name) = named name
 
   -- Where the first expression is an identifier before "=>", this is a formal.
   abbrev pub arguments_by : Tall → Option Kind → Reader (Arguments × Parts)
-  arguments_by first (Some k.Arrow) = named_by (identifier_in first.expr)
+  arguments_by first (Some k.Arrow) = named_by first (identifier_in first.expr)
   arguments_by first (Some k.Comma) = positional first
-  arguments_by first _ = pure (arguments_as.Positional 1, with_part no_parts first)
+  arguments_by first _ = pure (one_part first)
 
   -- expression {"," expression} | identifier "=>" expression {"," identifier "=>" expression}
   unfoldable pub arguments : Reader (Arguments × Parts)

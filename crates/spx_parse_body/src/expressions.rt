@@ -10,8 +10,8 @@ ghost use Rattle.spx_cursor.specs.Reading.{◌>>=◌ as ◌▷◌};
 ghost use Rattle.spx_cursor.specs.Answers.{Reads};
 
 use crate::names::{
-    Parts, StepKind, TallName, identifier_in, no_parts, plain_name, root_name, step_of, with_named,
-    with_part, with_step,
+    Parts, StepKind, TallName, all_named, identifier_in, no_parts, one_part, plain_name, root_name,
+    step_of, with_named, with_part, with_step,
 };
 use spx_cursor::{
     ANNOTATION, Chain, Cursor, PROGRAM, Relator, Stop, abs_or_not, connective_of, last_layer,
@@ -170,7 +170,7 @@ fn more_parts(
     Ok(parts)
 }
 
-// association = "=>" expression, for a formal
+// association = "=>" expression
 #[cycle(layers)]
 #[tactic(auto, unfolding(crate::specs::Expressions::association))]
 fn association(
@@ -178,18 +178,16 @@ fn association(
     cursor: &mut Cursor<'_>,
     levels: u32,
     marked: bool,
-    name: Identifier,
-) -> Result<(Identifier, Tall), Stop>
+) -> Result<Tall, Stop>
     requires { 0 < levels }
-    ensures gives { Reads (read.association marked (read.below marked levels) levels name cursor.old) result cursor.new }
-    ensures low { IfOk result (λ r. r.1.height < levels) }
+    ensures gives { Reads (read.association marked (read.below marked levels) levels cursor.old) result cursor.new }
+    ensures low { IfOk result (λ t. t.height < levels) }
 {
     cursor.expect(marked, Kind::Arrow)?;
-    let part = below(alloc, cursor, levels, marked, Layer::Expression)?;
-    Ok((name, part))
+    below(alloc, cursor, levels, marked, Layer::Expression)
 }
 
-// named_part = identifier "=>" expression
+// named_part = identifier association
 #[cycle(layers)]
 #[tactic(auto, unfolding(crate::specs::Expressions::named_part))]
 fn named_part(
@@ -203,7 +201,8 @@ fn named_part(
     ensures low { IfOk result (λ r. r.1.height < levels) }
 {
     let name = cursor.identifier(alloc, marked)?;
-    association(alloc, cursor, levels, marked, name)
+    let part = association(alloc, cursor, levels, marked)?;
+    Ok((name, part))
 }
 
 // {"," named_part}
@@ -249,39 +248,43 @@ fn positional(
     Ok((Arguments::Positional(parts.exprs.len()), parts))
 }
 
-/// What the formals of some expressions are called, and the expressions.
-fn named_arguments(parts: Parts, alloc: Global) -> (Arguments, Parts)
-    ensures { result ≡ read.all_named parts }
-{
-    let rest = Parts {
-        names: Items::new(alloc),
-        exprs: parts.exprs,
-        height: parts.height,
-    };
-    (Arguments::Named(parts.names), rest)
-}
-
-// the arguments after their first formal, where there is one
+// the arguments after their first formal
 #[cycle(layers)]
 #[tactic(auto, unfolding(crate::specs::Expressions::named))]
+fn named(
+    alloc: Global,
+    cursor: &mut Cursor<'_>,
+    levels: u32,
+    marked: bool,
+    name: Identifier,
+) -> Result<(Arguments, Parts), Stop>
+    requires { 0 < levels }
+    ensures gives { Reads (read.named marked (read.below marked levels) levels name cursor.old) result cursor.new }
+    ensures low { IfOk result (λ r. r.1.height ≤ levels) }
+{
+    let part = association(alloc, cursor, levels, marked)?;
+    let parts = with_named(no_parts(alloc), name, part)?;
+    let parts = more_named(alloc, cursor, levels, marked, parts)?;
+    Ok(all_named(alloc, parts))
+}
+
+// the arguments after their first expression, before "=>"
+#[cycle(layers)]
 fn named_by(
     alloc: Global,
     cursor: &mut Cursor<'_>,
     levels: u32,
     marked: bool,
-    name: Option<Identifier>,
+    first: Tall,
 ) -> Result<(Arguments, Parts), Stop>
-    requires { 0 < levels }
-    ensures gives { Reads (read.named_by marked (read.below marked levels) levels name cursor.old) result cursor.new }
+    requires { first.height < levels }
+    ensures gives { Reads (read.named_by marked (read.below marked levels) levels first (read.identifier_in first.expr) cursor.old) result cursor.new }
     ensures low { IfOk result (λ r. r.1.height ≤ levels) }
 {
-    let Some(name) = name else {
-        return Err(cursor.expected());
-    };
-    let (name, part) = association(alloc, cursor, levels, marked, name)?;
-    let parts = with_named(no_parts(alloc), name, part)?;
-    let parts = more_named(alloc, cursor, levels, marked, parts)?;
-    Ok(named_arguments(parts, alloc))
+    match identifier_in(alloc, first.expr.get())? {
+        Some(name) => named(alloc, cursor, levels, marked, name),
+        None => Ok(one_part(alloc, first)?),
+    }
 }
 
 // arguments = expression {"," expression} | named_part {"," named_part}
@@ -299,15 +302,9 @@ fn arguments(
 {
     let first = below(alloc, cursor, levels, marked, Layer::Expression)?;
     match cursor.peek(marked) {
-        Some(Kind::Arrow) => {
-            let name = identifier_in(first.expr.into_inner());
-            named_by(alloc, cursor, levels, marked, name)
-        }
+        Some(Kind::Arrow) => named_by(alloc, cursor, levels, marked, first),
         Some(Kind::Comma) => positional(alloc, cursor, levels, marked, first),
-        _ => {
-            let parts = with_part(no_parts(alloc), first)?;
-            Ok((Arguments::Positional(1), parts))
-        }
+        _ => Ok(one_part(alloc, first)?),
     }
 }
 
@@ -694,10 +691,10 @@ fn member_type(
     high: u32,
     type_name: Option<Name>,
 ) -> Result<Tall, Stop>
-    requires { tested.height < 2 ^ 32 - 1 }
-    requires { high < 2 ^ 32 - 1 }
+    requires tested_low { tested.height < 2 ^ 32 - 1 }
+    requires low { high < 2 ^ 32 - 1 }
     ensures gives { Reads (read.type_by op place tested high type_name cursor.now) result cursor.now }
-    ensures low { IfOk result (λ t. t.height ≡ max tested.height high + 1) }
+    ensures taller { IfOk result (λ t. t.height ≡ max tested.height high + 1) }
 {
     let Some(type_name) = type_name else {
         return Err(cursor.expected());

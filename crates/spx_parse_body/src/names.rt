@@ -3,7 +3,7 @@ ghost use Rattle.std.specs.Prelude.{◌≡◌, ◌<◌, ◌^◌, ◌-◌, IfOk};
 ghost use Rattle.spx_parse_body.specs.Expressions as read;
 
 use crate::expressions::Tall;
-use spx_tree::{Expr, Identifier, Kind, Name, NameStep, Path};
+use spx_tree::{Arguments, Expr, Identifier, Kind, Name, NameStep, Path};
 use sqlite_items::Items;
 use std::alloc::{AllocError, Global};
 
@@ -77,6 +77,15 @@ pub(crate) fn with_part(parts: Parts, part: Tall) -> Result<Parts, AllocError>
     })
 }
 
+/// Arguments of one expression, and this.
+pub(crate) fn one_part(alloc: Global, part: Tall) -> Result<(Arguments, Parts), AllocError>
+    requires { part.height < 2 ^ 32 - 1 }
+    ensures { IfOk result (λ r. r ≡ read.one_part part) }
+{
+    let parts = with_part(no_parts(alloc), part)?;
+    Ok((Arguments::Positional(1), parts))
+}
+
 /// One expression more, which is given for a formal.
 pub(crate) fn with_named(parts: Parts, name: Identifier, part: Tall) -> Result<Parts, AllocError>
     requires { part.height < 2 ^ 32 - 1 }
@@ -92,6 +101,18 @@ pub(crate) fn with_named(parts: Parts, name: Identifier, part: Tall) -> Result<P
         exprs,
         height,
     })
+}
+
+/// Arguments that are named, and their expressions.
+pub(crate) fn all_named(alloc: Global, parts: Parts) -> (Arguments, Parts)
+    ensures { result ≡ read.all_named parts }
+{
+    let rest = Parts {
+        names: Items::new(alloc),
+        exprs: parts.exprs,
+        height: parts.height,
+    };
+    (Arguments::Named(parts.names), rest)
 }
 
 /// An identifier.
@@ -129,13 +150,13 @@ pub(crate) fn with_step(
 }
 
 /// The identifier that a name is.
-fn root_alone(path: Path) -> Option<Identifier>
-    ensures { result ≡ read.root_alone path.root path.steps }
+fn root_alone(alloc: Global, path: &Path) -> Result<Option<Identifier>, AllocError>
+    ensures { IfOk result (λ r. r ≡ read.root_alone path.now.root path.now.steps) }
 {
     if path.steps.is_empty() {
-        return Some(path.root);
+        return Ok(Some(path.root.copy(alloc)?));
     }
-    None
+    Ok(None)
 }
 
 /// The name that an expression is.
@@ -154,11 +175,16 @@ pub(crate) fn plain_name(expr: Expr) -> Option<Name>
 }
 
 /// The identifier that an expression is.
-pub(crate) fn identifier_in(expr: Expr) -> Option<Identifier>
-    ensures { result ≡ read.identifier_in expr }
+pub(crate) fn identifier_in(alloc: Global, expr: &Expr) -> Result<Option<Identifier>, AllocError>
+    ensures { IfOk result (λ r. r ≡ read.identifier_in expr.now) }
 {
-    match plain_name(expr) {
-        Some(name) => root_alone(name.path),
-        None => None,
+    match expr {
+        Expr::Name(path, _) => root_alone(alloc, path),
+        Expr::Number(_, _) => Ok(None),
+        Expr::Parenthesized(_, _) => Ok(None),
+        Expr::Prefix(_, _, _) => Ok(None),
+        Expr::Infix(_, _, _, _) => Ok(None),
+        Expr::InType(_, _, _, _, _) => Ok(None),
+        Expr::InRange(_, _, _, _, _) => Ok(None),
     }
 }
