@@ -1,6 +1,6 @@
 -- The readers of names and expressions keep the laws of readers.
 use Rattle.std.specs.Prelude.{⊤}
-use Rattle.std.proofs.Common.{◌≡◌, inl, inr, ℕ, zero, suc, ◌+◌, ◌-◌, ◌≤◌, ◌<◌, max, Bool, true, false, List, [], ◌∷◌, ◌++◌, map, Option, Some, None, Ok, Err, refl, sym, ap, ap₂, subst, ◌∙◌, append_assoc, arith}
+use Rattle.std.proofs.Common.{◌≡◌, inl, inr, ℕ, zero, suc, ◌+◌, ◌-◌, ◌≤◌, ◌<◌, max, Bool, true, false, List, [], ◌∷◌, ◌++◌, map, length, Option, Some, None, Ok, Err, refl, sym, ap, ap₂, subst, ◌∙◌, append_assoc, arith}
 use Rattle.std.proofs.lemmas.List.{append-nil}
 use Rattle.spx_text.specs.declared.place.Place.{Place}
 use Rattle.spx_tree.specs.declared.token.Kind.{Kind}
@@ -50,20 +50,20 @@ use Rattle.spx_parse_body.proofs.Callers.Operators.{op_placed, sign_placed, sign
 
 -- ---- what nodes are written with, and what they are
 
-enclosed_text : (marked : Bool) (place : Place) (inner : Expr) → written_expr marked (expr.Parenthesized place inner) ≡ placed marked k.LeftParenthesis place ∷ (written_expr marked inner ++ bare marked k.RightParenthesis ∷ [])
+pub enclosed_text : (marked : Bool) (place : Place) (inner : Expr) → written_expr marked (expr.Parenthesized place inner) ≡ placed marked k.LeftParenthesis place ∷ (written_expr marked inner ++ bare marked k.RightParenthesis ∷ [])
 enclosed_text marked place inner = text_of marked (expr.Parenthesized place inner) (Expr-F.Parenthesized place inner) (outs-Parenthesized place inner)
 
-prefixed_text : (marked : Bool) (o : PrefixOp) (place : Place) (operand : Expr) → written_expr marked (expr.Prefix o place operand) ≡ placed marked (sign_kind o) place ∷ written_expr marked operand
+pub prefixed_text : (marked : Bool) (o : PrefixOp) (place : Place) (operand : Expr) → written_expr marked (expr.Prefix o place operand) ≡ placed marked (sign_kind o) place ∷ written_expr marked operand
 prefixed_text marked o place operand = text_of marked (expr.Prefix o place operand) (Expr-F.Prefix o place operand) (outs-Prefix o place operand)
 
-infix_text : (marked : Bool) (o : InfixOp) (place : Place) (left right : Expr) → written_expr marked (expr.Infix o place left right) ≡ written_expr marked left ++ (written_operator marked o place ++ written_expr marked right)
+pub infix_text : (marked : Bool) (o : InfixOp) (place : Place) (left right : Expr) → written_expr marked (expr.Infix o place left right) ≡ written_expr marked left ++ (written_operator marked o place ++ written_expr marked right)
 infix_text marked o place left right = text_of marked (expr.Infix o place left right) (Expr-F.Infix o place left right) (outs-Infix o place left right)
 
-in_type_text : (marked : Bool) (o : MemberOp) (place : Place) (tested : Expr) (path : Path) (parts : List Expr)
+pub in_type_text : (marked : Bool) (o : MemberOp) (place : Place) (tested : Expr) (path : Path) (parts : List Expr)
     → written_expr marked (expr.InType o place tested path parts) ≡ written_expr marked tested ++ (written_member marked o place ++ written_path marked path (map (written_expr marked) parts))
 in_type_text marked o place tested path parts = text_of marked (expr.InType o place tested path parts) (Expr-F.InType o place tested path parts) (outs-InType o place tested path parts)
 
-in_range_text : (marked : Bool) (o : MemberOp) (place : Place) (tested low high : Expr)
+pub in_range_text : (marked : Bool) (o : MemberOp) (place : Place) (tested low high : Expr)
     → written_expr marked (expr.InRange o place tested low high) ≡ written_expr marked tested ++ (written_member marked o place ++ (written_expr marked low ++ bare marked k.DoubleDot ∷ written_expr marked high))
 in_range_text marked o place tested low high = text_of marked (expr.InRange o place tested low high) (Expr-F.InRange o place tested low high) (outs-InRange o place tested low high)
 

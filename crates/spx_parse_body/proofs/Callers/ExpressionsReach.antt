@@ -1,6 +1,5 @@
 -- The forms of a name or an expression are read as that, whatever stands after them that does not go on with it.
-use Rattle.std.proofs.Common.{◌≡◌, ◌⊎◌, inl, inr, ℕ, zero, suc, ◌+◌, ◌-◌, ◌≤◌, ◌<◌, max, Bool, true, false, List, [], ◌∷◌, ◌++◌, Option, Some, None, Ok, refl, sym, ap, subst, ◌∙◌, append_assoc, arith}
-use denote.Hole.Carrier.{hidden}
+use Rattle.std.proofs.Common.{◌≡◌, ◌⊎◌, inl, inr, ℕ, zero, suc, ◌+◌, ◌-◌, ◌≤◌, ◌<◌, max, Bool, true, false, List, [], ◌∷◌, ◌++◌, map, length, Option, Some, None, Ok, refl, sym, ap, ap₂, subst, ◌∙◌, append_assoc, arith}
 use Rattle.spx_text.specs.declared.place.Place.{Place}
 use Rattle.spx_tree.specs.declared.token.Kind.{Kind}
 use Rattle.spx_tree.specs.declared.token.Kind.TheVariants as k
@@ -13,75 +12,33 @@ use Rattle.spx_tree.specs.declared.expression.MemberOp.{MemberOp}
 use Rattle.spx_tree.specs.declared.expression.MemberOp.TheVariants as members
 use Rattle.spx_tree.specs.declared.expression.Layer.{Layer}
 use Rattle.spx_tree.specs.declared.expression.Layer.TheVariants as layer
+use Rattle.spx_tree.specs.declared.expression.Path.{Path}
 use Rattle.spx_tree.specs.declared.expression.Name.{Name}
-use Rattle.spx_tree.specs.declared.expression.Name.TheVariants.{Simple, Attribute}
-use Rattle.spx_tree.specs.declared.expression.Function.{Function}
-use Rattle.spx_tree.specs.declared.expression.FunctionForm.{FunctionForm}
-use Rattle.spx_tree.specs.declared.expression.FunctionForm.TheVariants as forms
-use Rattle.spx_tree.specs.declared.expression.Expr.{Expr}
-use Rattle.spx_tree.specs.declared.expression.Expr.TheBlock.{hidden-the_row-Expr-0}
+use Rattle.spx_tree.specs.declared.expression.Expr.{Expr, Expr-F, out-Expr, map-Expr, fold-Expr, fold_out-Expr}
 use Rattle.spx_tree.specs.declared.expression.Expr.TheVariants as expr
+use Rattle.spx_tree.specs.declared.expression.Expr.TheVariants.{outs-Number, outs-Name, outs-Parenthesized, outs-Prefix, outs-Infix, outs-InType, outs-InRange}
 use Rattle.spx_tree.specs.Form.{Form, Kept, Nothing, Where, Spelled, Valued, placed, bare, named}
-use Rattle.spx_tree.specs.Written as written
 use Rattle.spx_tree.specs.declared.annotation.Predicate.{Predicate}
-use Rattle.spx_tree.specs.Written.{annotation, written_at, parenthesized, sign_kind, operator_kind, second_word, written_operator, written_member, written_form, written_name, written_expr}
-use Rattle.spx_tree.specs.Grammar.{height, layer_of, layer_before, layer_in, rank, right_layer, operand_layer, HasOperator, FitsLeft, IsUpTo, Layered, OfLayer, IsExpr, IsCondition, IsPredicate}
+use Rattle.spx_tree.specs.Written.{annotation, written_at, sign_kind, operator_kind, second_word, written_operator, written_member, written_steps, written_path, written_name, written_expr}
+use Rattle.spx_tree.specs.Grammar.{layer_of, layer_before, layer_in, rank, right_layer, operand_layer, IsOperation, HasOperator, FitsLeft, layers_of, IsName, OfLayer, IsExpr, IsCondition, IsPredicate}
 use Rattle.spx_parse_body.specs.declared.expressions.Tall.{Tall}
+use Rattle.spx_parse_body.specs.declared.names.Parts.{Parts}
+use Rattle.spx_parse_body.specs.declared.names.TallName.{TallName}
 use Rattle.spx_cursor.specs.declared.operators.Chain.{Chain}
 use Rattle.spx_cursor.specs.declared.operators.Chain.TheVariants as chain
 use Rattle.spx_cursor.specs.declared.operators.Relator.{Relator}
 use Rattle.spx_cursor.specs.declared.operators.Relator.TheVariants as relators
-use Rattle.spx_cursor.specs.Reading.{Outcome, Reader, and_then, peek}
+use Rattle.spx_cursor.specs.Reading.{Outcome, Reader, and_then, peek, sees}
 use Rattle.spx_cursor.specs.Operators.{sign_of, abs_or_not, power_of, multiplying, adding, relator_of, logical, connective_of, last_layer, if_then, if_else, same_logical, goes_on, second, whole_by, whole_operator}
-use Rattle.spx_parse_body.specs.Expressions.{function_of, name_by, name, literal, entry, in_parentheses, application, attribute_by, attribute, with_apostrophe_by, with_apostrophe, with_identifier_by, with_identifier, primary_by, primary, operated, joined_by, power_by, power, factor_by, factor, step_by, chain_step, chained, term, signed_by, signed, sum, type_by, member_by, member, inside, outside, relation_by, relation, combined, opening_by, opening, combination_by, combination, connection_by, connection, read, below, at_layer, expression, predicate, expression_at, predicate_after, simple_expression, expression_below, simple_expression_below, IsExprAt}
+use Rattle.spx_parse_body.specs.Expressions.{leaf, joined, root_name, name_alone, part_step, named_step, name_step, name_primary, literal, in_parentheses, primary_by, primary, operated, joined_by, power_by, power, factor_by, factor, step_by, chain_step, chained, term, signed_by, signed, sum, type_by, member_by, member, inside, outside, relation_by, relation, combined, opening_by, opening, combination_by, combination, connection_by, connection, read, below, at_layer, name, expression, predicate, expression_at, predicate_after, simple_expression, expression_below, simple_expression_below, IsExprAt, plain_name, name_at, tall_name}
+use Rattle.spx_parse_body.proofs.Callers.Heights.{tops, height, name_height, infix_height, prefix_height, parenthesized_height, in_type_height, in_range_height, rank_low, IsUpTo, Layered, IsPart, Operands, infix_parts, prefix_parts, enclosed_parts, in_type_parts, in_range_parts, name_parts, infix_layer, prefix_layer, in_type_layer, in_range_layer, by_form, by_kind, by_height, of_layer_low, layered_of, parts_of, parts_low}
+use Rattle.spx_parse_body.proofs.Callers.Names.{text_of, name_text}
+use Rattle.spx_parse_body.proofs.Callers.ExpressionsGood.{enclosed_text, prefixed_text, infix_text, in_type_text, in_range_text}
+use Rattle.spx_parse_body.proofs.Callers.NamesReach.{measure, strength, Free, peek_here, Again, bare_past, bare_free, end_name, all_steps, name_reached}
 use Rattle.spx_parse_body.proofs.Callers.Loops.{Shrinks}
 use Rattle.spx_parse_body.proofs.Callers.Reaches.{Reaches, reaches_bind, reaches_pure, reaches_choose, reaches_deeper, reaches_expect, reaches_expect_place, reaches_identifier, reaches_number, peek_front, loop_turn, loop_over}
 use Rattle.spx_parse_body.proofs.Callers.Operators.{chain_layer}
-use Rattle.spx_parse_body.proofs.Callers.ExpressionsGood.{below_good, chain_shrinks}
-
--- an expression with its height
-abbrev pub measure : Expr → Tall
-measure x = record { expr = x; height = height x }
-
--- the rank of the least layer that a form of this kind goes on with, or a greater number
-abbrev pub strength : Option Kind → ℕ
-strength (Some k.Apostrophe) = 0
-strength (Some k.LeftParenthesis) = 0
-strength (Some k.Tilde) = 0
-strength (Some k.DoubleAsterisk) = 1
-strength (Some k.Asterisk) = 2
-strength (Some k.Slash) = 2
-strength (Some k.Mod) = 2
-strength (Some k.Rem) = 2
-strength (Some k.Plus) = 3
-strength (Some k.Minus) = 3
-strength (Some k.Equal) = 4
-strength (Some k.NotEqual) = 4
-strength (Some k.Less) = 4
-strength (Some k.LessOrEqual) = 4
-strength (Some k.Greater) = 4
-strength (Some k.GreaterOrEqual) = 4
-strength (Some k.In) = 4
-strength (Some k.Not) = 4
-strength (Some k.DoubleDot) = 4
-strength (Some k.And) = 5
-strength (Some k.Or) = 5
-strength (Some k.Xor) = 5
-strength (Some k.Implication) = 6
-strength (Some k.Equivalence) = 6
-strength _ = 7
-
--- the next form does not go on with an expression of this layer
-abbrev pub Free : Layer → Option Kind → Type 0
-Free layer kind = rank layer < strength kind
-
-pub peek_here : (marked : Bool) (kind : Kind) (part : Kept) (fs : List Form) → peek marked (record { kind = kind; marked = marked; kept = part } ∷ fs) ≡ Some kind
-peek_here true kind part fs = refl
-peek_here false kind part fs = refl
-
--- an expression of this layer is read, within so many levels
-abbrev pub Again : Bool → Reader Tall → ℕ → Layer → Type 0
-Again marked p levels layer = (x : Expr) (fs zs : List Form) → height x ≤ levels → Layered x → rank (layer_in x) ≤ rank layer → Free layer (peek marked zs) → fs ≡ written_expr marked x ++ zs → Reaches p fs (measure x) zs
+use Rattle.spx_parse_body.proofs.Callers.ExpressionsGood.{below_good, chain_shrinks, name_shrinks, parts_shrinks, named_shrinks}
 
 -- ---- operators
 
@@ -223,10 +180,6 @@ layers layer.Expression layer.Expression h = inl refl
 layers layer.Predicate layer.Predicate h = inl refl
 layers _ _ h = inr (omega arith)
 
-rank_low : (a : Layer) → rank a ≤ 6
-rank_low layer.Primary = omega arith
-rank_low _ = omega arith
-
 right_low : (a : Layer) → rank (right_layer a) ≤ rank a
 right_low layer.Primary = omega arith
 right_low _ = omega arith
@@ -239,51 +192,101 @@ some_before : (o : PrefixOp) → 0 < rank (layer_before o)
 some_before sign.Plus = omega arith
 some_before _ = omega arith
 
--- ---- names
-
-name_plain : (marked : Bool) (prefix : Identifier) (kind : Option Kind) (us zs : List Form) → (kind ≡ Some k.Apostrophe → ⊥) → us ≡ zs → Reaches (name_by marked prefix kind) us (Simple prefix) zs
-name_plain marked prefix (Some k.Apostrophe) us zs free e = absurd (free refl)
-name_plain marked prefix _ us zs free e = reaches_pure e
-
-pub name_again : (marked : Bool) (x : Name) (fs zs : List Form) → (peek marked zs ≡ Some k.Apostrophe → ⊥) → fs ≡ written_name marked x ++ zs → Reaches (name marked) fs x zs
-unfolding name
-name_again marked (Simple prefix) fs zs free e =
-    reaches_bind _ (reaches_identifier marked e) (λ us a. reaches_choose (peek marked) (name_by marked prefix) (peek marked zs) (peek_front marked us a) (name_plain marked prefix (peek marked zs) us zs free a))
-name_again marked (Attribute prefix designator) fs zs free e =
-    reaches_bind _ (reaches_identifier marked e) (λ us a. reaches_choose (peek marked) (name_by marked prefix) (Some k.Apostrophe) (peek_front marked us a ∙ peek_here marked k.Apostrophe Nothing (named marked designator ∷ zs))
-    (reaches_bind _ (reaches_expect marked k.Apostrophe a) (λ vs b. reaches_bind _ (reaches_identifier marked b) (λ ws d. reaches_pure d))))
-
--- an identifier comes first
-pub name_front : (marked : Bool) (x : Name) (zs : List Form) → peek marked (written_name marked x ++ zs) ≡ Some k.Identifier
-name_front marked (Simple prefix) zs = peek_here marked k.Identifier (Spelled prefix.text prefix.place) zs
-name_front marked (Attribute prefix designator) zs = peek_here marked k.Identifier (Spelled prefix.text prefix.place) (bare marked k.Apostrophe ∷ named marked designator ∷ zs)
-
 -- ---- what expressions begin with
 
-abbrev front_kind : Expr → Kind
-front_kind (expr.Number value place) = k.Number
-front_kind (expr.Name x) = k.Identifier
-front_kind (expr.Entry identifier) = k.Identifier
-front_kind (written.applied function place operand) = k.Identifier
-front_kind (parenthesized place inner) = k.LeftParenthesis
-front_kind (written.signed o place operand) = sign_kind o
-front_kind (written.operation o place left right) = front_kind left
-front_kind (written.in_type o place tested type_name) = front_kind tested
-front_kind (written.in_range o place tested low high) = front_kind tested
+front_step : Expr-F Kind → Kind
+front_step (Expr-F.Number value place) = k.Number
+front_step (Expr-F.Name path parts) = k.Identifier
+front_step (Expr-F.Parenthesized place inner) = k.LeftParenthesis
+front_step (Expr-F.Prefix o place operand) = sign_kind o
+front_step (Expr-F.Infix o place left right) = left
+front_step (Expr-F.InType o place tested path parts) = tested
+front_step (Expr-F.InRange o place tested low high) = tested
 
-front : (marked : Bool) (x : Expr) (zs : List Form) → peek marked (written_expr marked x ++ zs) ≡ Some (front_kind x)
-front marked (expr.Number value place) zs = peek_here marked k.Number (Valued value place) zs
-front marked (expr.Name x) zs = name_front marked x zs
-front marked (expr.Entry x) zs = peek_here marked k.Identifier (Spelled x.text x.place) (bare marked k.Tilde ∷ zs)
-front marked (written.applied function place operand) zs =
-    peek_here marked k.Identifier (Spelled function.name.text function.name.place) ((written_form marked function.form ++ (placed marked k.LeftParenthesis place ∷ (written_expr marked operand ++ bare marked k.RightParenthesis ∷ []))) ++ zs)
-front marked (parenthesized place inner) zs = peek_here marked k.LeftParenthesis (Where place) ((written_expr marked inner ++ bare marked k.RightParenthesis ∷ []) ++ zs)
-front marked (written.signed o place operand) zs = peek_here marked (sign_kind o) (Where place) (written_expr marked operand ++ zs)
-front marked (written.operation o place left right) zs = ap (peek marked) (append_assoc (written_expr marked left) (written_operator marked o place ++ written_expr marked right) zs) ∙ front marked left ((written_operator marked o place ++ written_expr marked right) ++ zs)
-front marked (written.in_type o place tested type_name) zs = ap (peek marked) (append_assoc (written_expr marked tested) (written_member marked o place ++ written_name marked type_name) zs) ∙ front marked tested ((written_member marked o place ++ written_name marked type_name) ++ zs)
-front marked (written.in_range o place tested low high) zs =
-    let following : List Form = written_member marked o place ++ (written_expr marked low ++ bare marked k.DoubleDot ∷ written_expr marked high) in
-    ap (peek marked) (append_assoc (written_expr marked tested) following zs) ∙ front marked tested (following ++ zs)
+front_kind : Expr → Kind
+front_kind = fold-Expr Kind front_step
+
+front_of : (x : Expr) (y : Expr-F Expr) → out-Expr x ≡ y → front_kind x ≡ front_step (map-Expr Expr Kind front_kind y)
+unfolding front_kind front_step
+front_of x y e = fold_out-Expr Kind front_step x ∙ ap (λ (z : Expr-F Expr). front_step (map-Expr Expr Kind front_kind z)) e
+
+number_front : (value : ℤ) (place : Place) → front_kind (expr.Number value place) ≡ k.Number
+unfolding front_step
+number_front value place = front_of (expr.Number value place) (Expr-F.Number value place) (outs-Number value place)
+
+name_front_is : (path : Path) (parts : List Expr) → front_kind (expr.Name path parts) ≡ k.Identifier
+unfolding front_step
+name_front_is path parts = front_of (expr.Name path parts) (Expr-F.Name path parts) (outs-Name path parts)
+
+enclosed_front : (place : Place) (inner : Expr) → front_kind (expr.Parenthesized place inner) ≡ k.LeftParenthesis
+unfolding front_step
+enclosed_front place inner = front_of (expr.Parenthesized place inner) (Expr-F.Parenthesized place inner) (outs-Parenthesized place inner)
+
+prefix_front : (o : PrefixOp) (place : Place) (operand : Expr) → front_kind (expr.Prefix o place operand) ≡ sign_kind o
+unfolding front_step
+prefix_front o place operand = front_of (expr.Prefix o place operand) (Expr-F.Prefix o place operand) (outs-Prefix o place operand)
+
+infix_front : (o : InfixOp) (place : Place) (left right : Expr) → front_kind (expr.Infix o place left right) ≡ front_kind left
+unfolding front_step
+infix_front o place left right = front_of (expr.Infix o place left right) (Expr-F.Infix o place left right) (outs-Infix o place left right)
+
+in_type_front : (o : MemberOp) (place : Place) (tested : Expr) (path : Path) (parts : List Expr) → front_kind (expr.InType o place tested path parts) ≡ front_kind tested
+unfolding front_step
+in_type_front o place tested path parts = front_of (expr.InType o place tested path parts) (Expr-F.InType o place tested path parts) (outs-InType o place tested path parts)
+
+in_range_front : (o : MemberOp) (place : Place) (tested low high : Expr) → front_kind (expr.InRange o place tested low high) ≡ front_kind tested
+unfolding front_step
+in_range_front o place tested low high = front_of (expr.InRange o place tested low high) (Expr-F.InRange o place tested low high) (outs-InRange o place tested low high)
+
+-- the left operands are less high
+infix_less : (o : InfixOp) (place : Place) (left right : Expr) → height left < height (expr.Infix o place left right)
+infix_less o place left right = let h = infix_height o place left right in omega arith
+
+in_type_less : (o : MemberOp) (place : Place) (tested : Expr) (path : Path) (parts : List Expr) → height tested < height (expr.InType o place tested path parts)
+in_type_less o place tested path parts = let h = in_type_height o place tested path parts in omega arith
+
+in_range_less : (o : MemberOp) (place : Place) (tested low high : Expr) → height tested < height (expr.InRange o place tested low high)
+in_range_less o place tested low high = let h = in_range_height o place tested low high in omega arith
+
+-- what holds of an expression where it holds of all that are less high, by its form
+module _ (Q : Expr → Type 0)
+    (number : (value : ℤ) (place : Place) → Q (expr.Number value place)) (name : (path : Path) (parts : List Expr) → Q (expr.Name path parts)) (enclosed : (place : Place) (inner : Expr) → Q (expr.Parenthesized place inner))
+    (prefixed : (o : PrefixOp) (place : Place) (operand : Expr) → Q (expr.Prefix o place operand)) (operation : (o : InfixOp) (place : Place) (left right : Expr) → Q left → Q (expr.Infix o place left right))
+    (in_type : (o : MemberOp) (place : Place) (tested : Expr) (path : Path) (parts : List Expr) → Q tested → Q (expr.InType o place tested path parts)) (in_range : (o : MemberOp) (place : Place) (tested low high : Expr) → Q tested → Q (expr.InRange o place tested low high)) where
+  abbrev Rest : Expr → Type 0
+  Rest x = ((z : Expr) → height z < height x → Q z) → Q x
+
+  by_left : (x : Expr) → Q x
+  by_left = by_height Q (by_form Rest (λ value place rest. number value place) (λ path parts rest. name path parts) (λ place inner rest. enclosed place inner) (λ o place operand rest. prefixed o place operand)
+      (λ o place left right rest. operation o place left right (rest left (infix_less o place left right)))
+      (λ o place tested path parts rest. in_type o place tested path parts (rest tested (in_type_less o place tested path parts)))
+      (λ o place tested low high rest. in_range o place tested low high (rest tested (in_range_less o place tested low high))))
+
+-- forms begin with this kind, whatever stands after them
+abbrev BeginsSo : Bool → List Form → Kind → Type 0
+BeginsSo marked fs kind = (zs : List Form) → peek marked (fs ++ zs) ≡ Some kind
+
+begins_by : (marked : Bool) (x : Expr) (fs : List Form) (kind : Kind) → written_expr marked x ≡ fs → front_kind x ≡ kind → BeginsSo marked fs kind → BeginsSo marked (written_expr marked x) (front_kind x)
+begins_by marked x fs kind text is h zs = ap (λ (us : List Form). peek marked (us ++ zs)) text ∙ h zs ∙ ap (λ (j : Kind). Some j) (sym is)
+
+begins_more : (marked : Bool) (a b : List Form) (kind : Kind) → BeginsSo marked a kind → BeginsSo marked (a ++ b) kind
+begins_more marked a b kind h zs = ap (peek marked) (append_assoc a b zs) ∙ h (b ++ zs)
+
+front : (marked : Bool) (x : Expr) → BeginsSo marked (written_expr marked x) (front_kind x)
+front marked = by_left (λ x. BeginsSo marked (written_expr marked x) (front_kind x))
+    (λ value place. begins_by marked (expr.Number value place) _ k.Number (text_of marked (expr.Number value place) (Expr-F.Number value place) (outs-Number value place)) (number_front value place) (λ zs. peek_here marked k.Number (Valued value place) zs))
+    (λ path parts. begins_by marked (expr.Name path parts) _ k.Identifier (name_text marked path parts) (name_front_is path parts) (λ zs. peek_here marked k.Identifier (Spelled path.root.text path.root.place) (written_steps marked path.steps (map (written_expr marked) parts) ++ zs)))
+    (λ place inner. begins_by marked (expr.Parenthesized place inner) _ k.LeftParenthesis (enclosed_text marked place inner) (enclosed_front place inner) (λ zs. peek_here marked k.LeftParenthesis (Where place) ((written_expr marked inner ++ bare marked k.RightParenthesis ∷ []) ++ zs)))
+    (λ o place operand. begins_by marked (expr.Prefix o place operand) _ (sign_kind o) (prefixed_text marked o place operand) (prefix_front o place operand) (λ zs. peek_here marked (sign_kind o) (Where place) (written_expr marked operand ++ zs)))
+    (λ o place left right h. begins_by marked (expr.Infix o place left right) _ (front_kind left) (infix_text marked o place left right) (infix_front o place left right) (begins_more marked (written_expr marked left) _ (front_kind left) h))
+    (λ o place tested path parts h. begins_by marked (expr.InType o place tested path parts) _ (front_kind tested) (in_type_text marked o place tested path parts) (in_type_front o place tested path parts) (begins_more marked (written_expr marked tested) _ (front_kind tested) h))
+    (λ o place tested low high h. begins_by marked (expr.InRange o place tested low high) _ (front_kind tested) (in_range_text marked o place tested low high) (in_range_front o place tested low high) (begins_more marked (written_expr marked tested) _ (front_kind tested) h))
+
+-- what holds of the kinds that expressions begin with
+front_holds : (R : Kind → Type 0) → R k.Number → R k.Identifier → R k.LeftParenthesis → ((o : PrefixOp) → R (sign_kind o)) → (x : Expr) → R (front_kind x)
+front_holds R a b c d = by_left (λ x. R (front_kind x))
+    (λ value place. subst R (sym (number_front value place)) a) (λ path parts. subst R (sym (name_front_is path parts)) b) (λ place inner. subst R (sym (enclosed_front place inner)) c) (λ o place operand. subst R (sym (prefix_front o place operand)) (d o))
+    (λ o place left right h. subst R (sym (infix_front o place left right)) h) (λ o place tested path parts h. subst R (sym (in_type_front o place tested path parts)) h) (λ o place tested low high h. subst R (sym (in_range_front o place tested low high)) h)
 
 -- no expression begins with the second word of an operator
 abbrev NoSecond : Kind → Type 0
@@ -294,30 +297,14 @@ sign_no_second sign.Plus = (refl, refl)
 sign_no_second _ = (refl, refl)
 
 front_no_second : (x : Expr) → NoSecond (front_kind x)
-front_no_second (expr.Number value place) = (refl, refl)
-front_no_second (expr.Name x) = (refl, refl)
-front_no_second (expr.Entry x) = (refl, refl)
-front_no_second (written.applied function place operand) = (refl, refl)
-front_no_second (parenthesized place inner) = (refl, refl)
-front_no_second (written.signed o place operand) = sign_no_second o
-front_no_second (written.operation o place left right) = front_no_second left
-front_no_second (written.in_type o place tested type_name) = front_no_second tested
-front_no_second (written.in_range o place tested low high) = front_no_second tested
+front_no_second = front_holds NoSecond (refl, refl) (refl, refl) (refl, refl) sign_no_second
 
 sign_no_others : (o : PrefixOp) → sign_kind o ≡ k.Others → ⊥
 sign_no_others sign.Plus e = cc
 sign_no_others _ e = cc
 
 front_no_others : (x : Expr) → front_kind x ≡ k.Others → ⊥
-front_no_others (expr.Number value place) e = cc
-front_no_others (expr.Name x) e = cc
-front_no_others (expr.Entry x) e = cc
-front_no_others (written.applied function place operand) e = cc
-front_no_others (parenthesized place inner) e = cc
-front_no_others (written.signed o place operand) e = sign_no_others o e
-front_no_others (written.operation o place left right) e = front_no_others left e
-front_no_others (written.in_type o place tested type_name) e = front_no_others tested e
-front_no_others (written.in_range o place tested low high) e = front_no_others tested e
+front_no_others = front_holds (λ kind. kind ≡ k.Others → ⊥) (λ e. cc) (λ e. cc) (λ e. cc) sign_no_others
 
 -- no expression begins with the word "others"
 pub not_others : (marked : Bool) (x : Expr) (zs : List Form) → peek marked (written_expr marked x ++ zs) ≡ Some k.Others → ⊥
@@ -338,35 +325,30 @@ left_low layer.Predicate o x h f = absurd (omega arith)
 
 -- no term begins with a sign
 unsigned : (x : Expr) → Layered x → rank (layer_in x) ≤ 2 → sign_of (Some (front_kind x)) ≡ None
-unsigned (expr.Number value place) l r = refl
-unsigned (expr.Name x) l r = refl
-unsigned (expr.Entry x) l r = refl
-unsigned (written.applied function place operand) l r = refl
-unsigned (parenthesized place inner) l r = refl
-unsigned (written.signed o place operand) l r = elim (before_cases o) [ inl e ↦ let h = ap rank e.0 in absurd (omega arith) | inr e ↦ e.2 ]
-unsigned (written.operation o place left right) l r = unsigned left l.0 (let h = left_low (layer_of o) o left (omega arith) l.2 in omega arith)
-unsigned (written.in_type o place tested type_name) l r = absurd (omega arith)
-unsigned (written.in_range o place tested low high) l r = absurd (omega arith)
+unsigned = by_left (λ x. Layered x → rank (layer_in x) ≤ 2 → sign_of (Some (front_kind x)) ≡ None)
+    (λ value place l r. ap (λ (j : Kind). sign_of (Some j)) (number_front value place)) (λ path parts l r. ap (λ (j : Kind). sign_of (Some j)) (name_front_is path parts)) (λ place inner l r. ap (λ (j : Kind). sign_of (Some j)) (enclosed_front place inner))
+    (λ o place operand l r. ap (λ (j : Kind). sign_of (Some j)) (prefix_front o place operand) ∙ elim (before_cases o) [ inl e ↦ let h = ap rank e.0 in let a = ap rank (prefix_layer o place operand) in absurd (omega arith) | inr e ↦ e.2 ])
+    (λ o place left right rest l r.
+      let a = ap rank (infix_layer o place left right) in
+      let q = infix_parts o place left right l in
+      ap (λ (j : Kind). sign_of (Some j)) (infix_front o place left right) ∙ rest q.0 (let h = left_low (layer_of o) o left (omega arith) q.2 in omega arith))
+    (λ o place tested path parts rest l r. let a = ap rank (in_type_layer o place tested path parts) in absurd (omega arith))
+    (λ o place tested low high rest l r. let a = ap rank (in_range_layer o place tested low high) in absurd (omega arith))
 
 -- no primary begins with "abs" or "not"
 wordless : (x : Expr) → rank (layer_in x) ≤ 0 → abs_or_not (Some (front_kind x)) ≡ None
-wordless (expr.Number value place) r = refl
-wordless (expr.Name x) r = refl
-wordless (expr.Entry x) r = refl
-wordless (written.applied function place operand) r = refl
-wordless (parenthesized place inner) r = refl
-wordless (written.signed o place operand) r = let h = some_before o in absurd (omega arith)
-wordless (written.operation o place left right) r = let h = some_rank o in absurd (omega arith)
-wordless (written.in_type o place tested type_name) r = absurd (omega arith)
-wordless (written.in_range o place tested low high) r = absurd (omega arith)
+wordless = by_form (λ x. rank (layer_in x) ≤ 0 → abs_or_not (Some (front_kind x)) ≡ None)
+    (λ value place r. ap (λ (j : Kind). abs_or_not (Some j)) (number_front value place)) (λ path parts r. ap (λ (j : Kind). abs_or_not (Some j)) (name_front_is path parts)) (λ place inner r. ap (λ (j : Kind). abs_or_not (Some j)) (enclosed_front place inner))
+    (λ o place operand r. let h = some_before o in let a = ap rank (prefix_layer o place operand) in absurd (omega arith))
+    (λ o place left right r. let h = some_rank o in let a = ap rank (infix_layer o place left right) in absurd (omega arith))
+    (λ o place tested path parts r. let a = ap rank (in_type_layer o place tested path parts) in absurd (omega arith))
+    (λ o place tested low high r. let a = ap rank (in_range_layer o place tested low high) in absurd (omega arith))
+
+-- an operation, as it is joined
+joined_measure : (o : InfixOp) (place : Place) (x y : Expr) → joined o place (measure x) (measure y) ≡ measure (expr.Infix o place x y)
+joined_measure o place x y = ap (λ (h : ℕ). record { expr = expr.Infix o place x y; height = h }) (sym (infix_height o place x y))
 
 -- ---- expressions
-
-bare_past : (marked : Bool) (kind : Kind) (zs : List Form) → strength (Some kind) ≡ 7 → Free layer.Predicate (peek marked (bare marked kind ∷ zs))
-bare_past marked kind zs h = let e = ap strength (peek_here marked kind Nothing zs) ∙ h in omega arith
-
-pub bare_free : (marked : Bool) (kind : Kind) (zs : List Form) → strength (Some kind) ≡ 7 → Free layer.Expression (peek marked (bare marked kind ∷ zs))
-bare_free marked kind zs h = let past = bare_past marked kind zs h in omega arith
 
 second_again : (marked : Bool) (o : InfixOp) (fs zs : List Form) → fs ≡ second_word marked o ++ zs → Reaches (second marked o) fs tt zs
 second_again marked op.AndThen fs zs e = reaches_expect marked k.Then e

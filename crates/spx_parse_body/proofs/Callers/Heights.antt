@@ -264,3 +264,46 @@ module _ (Q : Expr → Type 0)
 
   pub by_form : (x : Expr) → Q x
   by_form x = by_level x (out-Expr x) refl
+
+-- the layer of each form
+module _ (x : Expr) (y : Expr-F Expr) (e : out-Expr x ≡ y) where
+  pub layer_is_at : layer_in x ≡ layer_at y
+  layer_is_at = ap layer_at e
+
+pub prefix_layer : (o : PrefixOp) (place : Place) (operand : Expr) → layer_in (expr.Prefix o place operand) ≡ layer_before o
+prefix_layer o place operand = layer_is_at (expr.Prefix o place operand) (Expr-F.Prefix o place operand) (outs-Prefix o place operand)
+
+pub infix_layer : (o : InfixOp) (place : Place) (left right : Expr) → layer_in (expr.Infix o place left right) ≡ layer_of o
+infix_layer o place left right = layer_is_at (expr.Infix o place left right) (Expr-F.Infix o place left right) (outs-Infix o place left right)
+
+pub in_type_layer : (o : MemberOp) (place : Place) (tested : Expr) (path : Path) (parts : List Expr) → layer_in (expr.InType o place tested path parts) ≡ layer.Relation
+in_type_layer o place tested path parts = layer_is_at (expr.InType o place tested path parts) (Expr-F.InType o place tested path parts) (outs-InType o place tested path parts)
+
+pub in_range_layer : (o : MemberOp) (place : Place) (tested low high : Expr) → layer_in (expr.InRange o place tested low high) ≡ layer.Relation
+in_range_layer o place tested low high = layer_is_at (expr.InRange o place tested low high) (Expr-F.InRange o place tested low high) (outs-InRange o place tested low high)
+
+pub number_layer : (value : ℤ) (place : Place) → layer_in (expr.Number value place) ≡ layer.Primary
+number_layer value place = layer_is_at (expr.Number value place) (Expr-F.Number value place) (outs-Number value place)
+
+pub name_layer : (path : Path) (parts : List Expr) → layer_in (expr.Name path parts) ≡ layer.Primary
+name_layer path parts = layer_is_at (expr.Name path parts) (Expr-F.Name path parts) (outs-Name path parts)
+
+pub enclosed_layer : (place : Place) (inner : Expr) → layer_in (expr.Parenthesized place inner) ≡ layer.Primary
+enclosed_layer place inner = layer_is_at (expr.Parenthesized place inner) (Expr-F.Parenthesized place inner) (outs-Parenthesized place inner)
+
+-- what holds of primaries and of each other form holds of each expression
+module _ (Q : Expr → Type 0)
+    (primary : (x : Expr) → rank (layer_in x) ≡ 0 → Q x) (prefixed : (o : PrefixOp) (place : Place) (operand : Expr) → Q (expr.Prefix o place operand)) (joined : (o : InfixOp) (place : Place) (left right : Expr) → Q (expr.Infix o place left right))
+    (in_type : (o : MemberOp) (place : Place) (tested : Expr) (path : Path) (parts : List Expr) → Q (expr.InType o place tested path parts)) (in_range : (o : MemberOp) (place : Place) (tested low high : Expr) → Q (expr.InRange o place tested low high)) where
+  pub by_kind : (x : Expr) → Q x
+  by_kind = by_form Q (λ value place. primary (expr.Number value place) (ap rank (number_layer value place))) (λ path parts. primary (expr.Name path parts) (ap rank (name_layer path parts)))
+      (λ place inner. primary (expr.Parenthesized place inner) (ap rank (enclosed_layer place inner))) prefixed joined in_type in_range
+
+-- what holds of an expression where it holds of all that are less high
+module _ (Q : Expr → Type 0) (go : (x : Expr) → ((z : Expr) → height z < height x → Q z) → Q x) where
+  below_height : (n : ℕ) (x : Expr) → height x < n → Q x
+  below_height zero x h = absurd (omega arith)
+  below_height (suc n) x h = go x (λ z lt. below_height n z (omega arith))
+
+  pub by_height : (x : Expr) → Q x
+  by_height x = below_height (suc (height x)) x (omega arith)
