@@ -46,6 +46,9 @@ height_of x y e = height_out x ∙ ap height_at e
 pub name_height : (path : Path) (parts : List Expr) → height (expr.Name path parts) ≡ tops (map height parts)
 name_height path parts = height_of (expr.Name path parts) (Expr-F.Name path parts) (outs-Name path parts)
 
+pub number_height : (value : ℤ) (place : Place) → height (expr.Number value place) ≡ 0
+number_height value place = height_of (expr.Number value place) (Expr-F.Number value place) (outs-Number value place)
+
 pub infix_height : (o : InfixOp) (place : Place) (left right : Expr) → height (expr.Infix o place left right) ≡ max (height left) (height right) + 1
 infix_height o place left right = height_of (expr.Infix o place left right) (Expr-F.Infix o place left right) (outs-Infix o place left right)
 
