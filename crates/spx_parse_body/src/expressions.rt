@@ -20,7 +20,8 @@ use spx_cursor::{
 };
 use spx_text::Place;
 use spx_tree::{
-    Arguments, Expr, Identifier, InfixOp, Kind, Layer, MemberOp, Name, NameStep, Predicate, PrefixOp,
+    Arguments, Expr, Identifier, InfixOp, Kind, Layer, MemberOp, Name, NameStep, Predicate,
+    PrefixOp,
 };
 use sqlite_items::{Boxed, Items};
 use std::alloc::{AllocError, Global};
@@ -372,12 +373,7 @@ fn attribute(
     ensures low { IfOk result (λ n. n.height ≤ levels) }
 {
     let designator = cursor.identifier(alloc, marked)?;
-    Ok(with_step(
-        name,
-        NameStep::Attribute(designator),
-        Items::new(alloc),
-        0,
-    )?)
+    Ok(with_step(name, NameStep::Attribute(designator), Items::new(alloc), 0)?)
 }
 
 // "'" (qualification | attribute)
@@ -416,12 +412,7 @@ fn selection(
 {
     cursor.expect(marked, Kind::Dot)?;
     let selector = cursor.identifier(alloc, marked)?;
-    Ok(with_step(
-        name,
-        NameStep::Selected(selector),
-        Items::new(alloc),
-        0,
-    )?)
+    Ok(with_step(name, NameStep::Selected(selector), Items::new(alloc), 0)?)
 }
 
 // entry = "~"
@@ -884,12 +875,7 @@ fn connection(
 
 /// Reads a name.
 #[tactic(auto, unfolding(crate::specs::Expressions::name))]
-pub fn name(
-    alloc: Global,
-    cursor: &mut Cursor<'_>,
-    levels: u32,
-    marked: bool,
-) -> Result<Name, Stop>
+pub fn name(alloc: Global, cursor: &mut Cursor<'_>, levels: u32, marked: bool) -> Result<Name, Stop>
     ensures { Reads (read.name marked levels cursor.old) result cursor.new }
 {
     let name = tall_name(alloc, cursor, levels, marked)?;

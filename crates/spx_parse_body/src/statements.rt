@@ -12,8 +12,8 @@ use crate::expressions::{at_layer, expr_below, name, predicate_after};
 use spx_cursor::{ANNOTATION, Cursor, PROGRAM, Stop};
 use spx_text::Place;
 use spx_tree::{
-    Alternative, Arm, AssertionKind, Choice, Closing, Count, Expr, Kind, Layer, Name, Range, Scheme,
-    Stmt,
+    Alternative, Arm, AssertionKind, Choice, Closing, Count, Expr, Kind, Layer, Name, Range,
+    Scheme, Stmt,
 };
 use sqlite_items::{Boxed, Items};
 use std::alloc::Global;
@@ -232,11 +232,7 @@ fn choice(alloc: Global, cursor: &mut Cursor<'_>, levels: u32) -> Result<Choice,
 
 // some_choices = choice {"|" choice}
 #[tactic(auto, using(crate::proofs::Callers::Turns::more_choices_is), unfolding(crate::specs::Statements::some_choices))]
-fn some_choices(
-    alloc: Global,
-    cursor: &mut Cursor<'_>,
-    levels: u32,
-) -> Result<Items<Choice>, Stop>
+fn some_choices(alloc: Global, cursor: &mut Cursor<'_>, levels: u32) -> Result<Items<Choice>, Stop>
     requires { 0 < levels }
     ensures { Reads (read.some_choices levels cursor.old) result cursor.new }
 {

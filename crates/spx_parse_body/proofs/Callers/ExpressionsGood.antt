@@ -343,7 +343,7 @@ module _ (marked : Bool) (below below' : Layer → Reader Tall) (levels : ℕ) (
       good_bind (good_given (λ l. l) (λ l w. tt) (good layer.Expression)) (λ t. good_bind (good_expect marked k.RightParenthesis) (λ u.
       good_pure (with_step (step.Qualified place) (t.expr ∷ []) (t.height + 1) n)
       (λ l w. flat (spelled_name marked n) (bare marked k.Apostrophe ∷ []) (placed marked k.LeftParenthesis place ∷ []) (spelled marked t) (bare marked k.RightParenthesis ∷ [])
-        ∙ step_text marked levels n (step.Qualified place) (t.expr ∷ []) (t.height + 1) w.0.0.0.1 ((w.0.1.layered, w.0.1.of_layer), tt))
+      ∙ step_text marked levels n (step.Qualified place) (t.expr ∷ []) (t.height + 1) w.0.0.0.1 ((w.0.1.layered, w.0.1.of_layer), tt))
       (λ l w. let m = w.0.1.measured in let b = w.0.1.low in step_fit levels n (step.Qualified place) (t.expr ∷ []) (t.height + 1) w.0.0.0.1 tt ((w.0.1.layered, w.0.1.of_layer), tt) (omega arith) (omega arith)))))
     where
       flat : (a b c d e : List Form) → (((a ++ b) ++ c) ++ d) ++ e ≡ a ++ (b ++ (c ++ ((d ++ []) ++ e)))

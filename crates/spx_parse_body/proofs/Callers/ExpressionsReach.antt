@@ -328,9 +328,9 @@ unsigned = by_left (λ x. Layered x → rank (layer_in x) ≤ 2 → sign_of (Som
     (λ value place l r. ap (λ (j : Kind). sign_of (Some j)) (number_front value place)) (λ path parts l r. ap (λ (j : Kind). sign_of (Some j)) (name_front_is path parts)) (λ place inner l r. ap (λ (j : Kind). sign_of (Some j)) (enclosed_front place inner))
     (λ o place operand l r. ap (λ (j : Kind). sign_of (Some j)) (prefix_front o place operand) ∙ elim (before_cases o) [ inl e ↦ let h = ap rank e.0 in let a = ap rank (prefix_layer o place operand) in absurd (omega arith) | inr e ↦ e.2 ])
     (λ o place left right rest l r.
-      let a = ap rank (infix_layer o place left right) in
-      let q = infix_parts o place left right l in
-      ap (λ (j : Kind). sign_of (Some j)) (infix_front o place left right) ∙ rest q.0 (let h = left_low (layer_of o) o left (omega arith) q.2 in omega arith))
+    let a = ap rank (infix_layer o place left right) in
+    let q = infix_parts o place left right l in
+    ap (λ (j : Kind). sign_of (Some j)) (infix_front o place left right) ∙ rest q.0 (let h = left_low (layer_of o) o left (omega arith) q.2 in omega arith))
     (λ o place tested path parts rest l r. let a = ap rank (in_type_layer o place tested path parts) in absurd (omega arith))
     (λ o place tested low high rest l r. let a = ap rank (in_range_layer o place tested low high) in absurd (omega arith))
 
@@ -504,19 +504,19 @@ module _ (marked : Bool) (below : Layer → Reader Tall) (levels : ℕ) (shrinks
   factor_again = by_kind (Told marked (factor marked below levels) levels layer.Factor)
       (λ x p fs zs low l r free e. plain_factor x fs zs low l (omega arith) free e)
       (λ o place x fs zs low l r free e.
-        let a = ap rank (prefix_layer o place x) in
-        let h = prefix_height o place x in
-        let q = prefix_parts o place x l in
-        elim (before_cases o) [
-          | inl is ↦ let h = ap rank is.0 in absurd (omega arith)
-          | inr is ↦ let g = ap rank is.1 in word_factor o place x fs zs is.3 (omega arith) q.0 q.1 (omega arith) (e ∙ prefix_flat o place x zs)
-        ])
+      let a = ap rank (prefix_layer o place x) in
+      let h = prefix_height o place x in
+      let q = prefix_parts o place x l in
+      elim (before_cases o) [
+        | inl is ↦ let h = ap rank is.0 in absurd (omega arith)
+        | inr is ↦ let g = ap rank is.1 in word_factor o place x fs zs is.3 (omega arith) q.0 q.1 (omega arith) (e ∙ prefix_flat o place x zs)
+      ])
       (λ o place x y fs zs low l r free e.
-        let a = ap rank (infix_layer o place x y) in
-        elim (layers layer.Factor (layer_of o) (omega arith)) [
-          | inl is ↦ wordless_factor (expr.Infix o place x y) fs zs (ap (λ (j : Kind). abs_or_not (Some j)) (infix_front o place x y) ∙ wordless x (subst (λ (b : Layer). FitsLeft b o x) is (infix_parts o place x y l).2)) e (power_joined o place x y fs zs is low l free e)
-          | inr lower ↦ let h = some_rank o in absurd (omega arith)
-        ])
+      let a = ap rank (infix_layer o place x y) in
+      elim (layers layer.Factor (layer_of o) (omega arith)) [
+        | inl is ↦ wordless_factor (expr.Infix o place x y) fs zs (ap (λ (j : Kind). abs_or_not (Some j)) (infix_front o place x y) ∙ wordless x (subst (λ (b : Layer). FitsLeft b o x) is (infix_parts o place x y l).2)) e (power_joined o place x y fs zs is low l free e)
+        | inr lower ↦ let h = some_rank o in absurd (omega arith)
+      ])
       (λ o place x path parts fs zs low l r free e. let a = ap rank (in_type_layer o place x path parts) in absurd (omega arith))
       (λ o place x a b fs zs low l r free e. let c = ap rank (in_range_layer o place x a b) in absurd (omega arith))
 
@@ -562,13 +562,13 @@ module _ (marked : Bool) (below : Layer → Reader Tall) (levels : ℕ) (shrinks
   term_goes = by_height TermGoes (by_kind TermRest
       (λ x p rest fs zs low l r free e. term_base x fs zs low l (omega arith) free e)
       (λ o place x rest fs zs low l r free e.
-        let a = ap rank (prefix_layer o place x) in
-        term_base (expr.Prefix o place x) fs zs low l (elim (before_cases o) [ inl is ↦ let h = ap rank is.0 in absurd (omega arith) | inr is ↦ let h = ap rank is.0 in omega arith ]) free e)
+      let a = ap rank (prefix_layer o place x) in
+      term_base (expr.Prefix o place x) fs zs low l (elim (before_cases o) [ inl is ↦ let h = ap rank is.0 in absurd (omega arith) | inr is ↦ let h = ap rank is.0 in omega arith ]) free e)
       (λ o place x y rest fs zs low l r free e.
-        let a = ap rank (infix_layer o place x y) in
-        let g = infix_height o place x y in
-        let low_x : height x ≤ levels = omega arith in
-        term_case o place x y fs zs low l free e (layers layer.Term (layer_of o) (omega arith)) (λ h f. rest x (infix_less o place x y) fs (from_operator o place y zs) low_x (infix_parts o place x y l).0 h f (e ∙ flat o place x y zs)))
+      let a = ap rank (infix_layer o place x y) in
+      let g = infix_height o place x y in
+      let low_x : height x ≤ levels = omega arith in
+      term_case o place x y fs zs low l free e (layers layer.Term (layer_of o) (omega arith)) (λ h f. rest x (infix_less o place x y) fs (from_operator o place y zs) low_x (infix_parts o place x y l).0 h f (e ∙ flat o place x y zs)))
       (λ o place x path parts rest fs zs low l r free e. let a = ap rank (in_type_layer o place x path parts) in absurd (omega arith))
       (λ o place x a b rest fs zs low l r free e. let c = ap rank (in_range_layer o place x a b) in absurd (omega arith)))
 
@@ -618,18 +618,18 @@ module _ (marked : Bool) (below : Layer → Reader Tall) (levels : ℕ) (shrinks
   sum_goes = by_height SumGoes (by_kind SumRest
       (λ x p rest fs zs low l r free e. sum_base x fs zs low l (omega arith) free e)
       (λ o place x rest fs zs low l r free e.
-        let a = ap rank (prefix_layer o place x) in
-        let h = prefix_height o place x in
-        let q = prefix_parts o place x l in
-        elim (before_cases o) [
-          | inl is ↦ let g = ap rank is.1 in sum_from (expr.Prefix o place x) fs zs (signed_term o place x fs zs is.2 (omega arith) q.0 q.1 (omega arith) (e ∙ prefix_flat o place x zs))
-          | inr is ↦ let g = ap rank is.0 in sum_base (expr.Prefix o place x) fs zs low l (omega arith) free e
-        ])
+      let a = ap rank (prefix_layer o place x) in
+      let h = prefix_height o place x in
+      let q = prefix_parts o place x l in
+      elim (before_cases o) [
+        | inl is ↦ let g = ap rank is.1 in sum_from (expr.Prefix o place x) fs zs (signed_term o place x fs zs is.2 (omega arith) q.0 q.1 (omega arith) (e ∙ prefix_flat o place x zs))
+        | inr is ↦ let g = ap rank is.0 in sum_base (expr.Prefix o place x) fs zs low l (omega arith) free e
+      ])
       (λ o place x y rest fs zs low l r free e.
-        let a = ap rank (infix_layer o place x y) in
-        let g = infix_height o place x y in
-        let low_x : height x ≤ levels = omega arith in
-        sum_case o place x y fs zs low l free e (layers layer.Sum (layer_of o) (omega arith)) (λ h f. rest x (infix_less o place x y) fs (from_operator o place y zs) low_x (infix_parts o place x y l).0 h f (e ∙ flat o place x y zs)))
+      let a = ap rank (infix_layer o place x y) in
+      let g = infix_height o place x y in
+      let low_x : height x ≤ levels = omega arith in
+      sum_case o place x y fs zs low l free e (layers layer.Sum (layer_of o) (omega arith)) (λ h f. rest x (infix_less o place x y) fs (from_operator o place y zs) low_x (infix_parts o place x y l).0 h f (e ∙ flat o place x y zs)))
       (λ o place x path parts rest fs zs low l r free e. let a = ap rank (in_type_layer o place x path parts) in absurd (omega arith))
       (λ o place x a b rest fs zs low l r free e. let c = ap rank (in_range_layer o place x a b) in absurd (omega arith)))
 
@@ -722,29 +722,29 @@ module _ (marked : Bool) (below : Layer → Reader Tall) (levels : ℕ) (shrinks
   relation_again = by_kind (Told marked (relation marked below levels) levels layer.Relation)
       (λ x p fs zs low l r free e. relation_plain x fs zs low l (omega arith) free e)
       (λ o place x fs zs low l r free e.
-        let a = ap rank (prefix_layer o place x) in
-        relation_plain (expr.Prefix o place x) fs zs low l (elim (before_cases o) [ inl is ↦ let h = ap rank is.0 in omega arith | inr is ↦ let h = ap rank is.0 in omega arith ]) free e)
+      let a = ap rank (prefix_layer o place x) in
+      relation_plain (expr.Prefix o place x) fs zs low l (elim (before_cases o) [ inl is ↦ let h = ap rank is.0 in omega arith | inr is ↦ let h = ap rank is.0 in omega arith ]) free e)
       (λ o place x y fs zs low l r free e.
-        let a = ap rank (infix_layer o place x y) in
-        elim (layers layer.Relation (layer_of o) (omega arith)) [
-          | inl is ↦ relation_joined o place x y fs zs is low l free e
-          | inr lower ↦ relation_plain (expr.Infix o place x y) fs zs low l (omega arith) free e
-        ])
+      let a = ap rank (infix_layer o place x y) in
+      elim (layers layer.Relation (layer_of o) (omega arith)) [
+        | inl is ↦ relation_joined o place x y fs zs is low l free e
+        | inr lower ↦ relation_plain (expr.Infix o place x y) fs zs low l (omega arith) free e
+      ])
       (λ o place x path parts fs zs low l r free e.
-        let h = in_type_height o place x path parts in
-        let g = name_height path parts in
-        let q = in_type_parts o place x path parts l in
-        let below_x : height x < levels = omega arith in
-        tested_again o place x (measure (expr.InType o place x path parts)) fs (written_path marked path (map (written_expr marked) parts) ++ zs) zs below_x q.0.0 q.0.1
-        (e ∙ ap (λ (us : List Form). us ++ zs) (in_type_text marked o place x path parts) ∙ typed (written_expr marked x) (written_member marked o place) (written_path marked path (map (written_expr marked) parts)) zs)
-        (λ us a. type_again o place x path parts us zs (omega arith) q.1.0 free a))
+      let h = in_type_height o place x path parts in
+      let g = name_height path parts in
+      let q = in_type_parts o place x path parts l in
+      let below_x : height x < levels = omega arith in
+      tested_again o place x (measure (expr.InType o place x path parts)) fs (written_path marked path (map (written_expr marked) parts) ++ zs) zs below_x q.0.0 q.0.1
+      (e ∙ ap (λ (us : List Form). us ++ zs) (in_type_text marked o place x path parts) ∙ typed (written_expr marked x) (written_member marked o place) (written_path marked path (map (written_expr marked) parts)) zs)
+      (λ us a. type_again o place x path parts us zs (omega arith) q.1.0 free a))
       (λ o place x a b fs zs low l r free e.
-        let g = in_range_height o place x a b in
-        let q = in_range_parts o place x a b l in
-        let below_x : height x < levels = omega arith in
-        tested_again o place x (measure (expr.InRange o place x a b)) fs (written_expr marked a ++ (bare marked k.DoubleDot ∷ (written_expr marked b ++ zs))) zs below_x q.0.0 q.0.1
-        (e ∙ ap (λ (us : List Form). us ++ zs) (in_range_text marked o place x a b) ∙ ranged (written_expr marked x) (written_member marked o place) (written_expr marked a) (written_expr marked b) zs)
-        (λ us h. range_again o place x a b us zs (omega arith) q.1.0 q.1.1 q.2.0 q.2.1 free h))
+      let g = in_range_height o place x a b in
+      let q = in_range_parts o place x a b l in
+      let below_x : height x < levels = omega arith in
+      tested_again o place x (measure (expr.InRange o place x a b)) fs (written_expr marked a ++ (bare marked k.DoubleDot ∷ (written_expr marked b ++ zs))) zs below_x q.0.0 q.0.1
+      (e ∙ ap (λ (us : List Form). us ++ zs) (in_range_text marked o place x a b) ∙ ranged (written_expr marked x) (written_member marked o place) (written_expr marked a) (written_expr marked b) zs)
+      (λ us h. range_again o place x a b us zs (omega arith) q.1.0 q.1.1 q.2.0 q.2.1 free h))
 
   -- ---- logical operations
 
@@ -814,15 +814,15 @@ module _ (marked : Bool) (below : Layer → Reader Tall) (levels : ℕ) (shrinks
       (λ place inner rest has fs zs low l free e. absurd (no_operator o (expr.Parenthesized place inner) (Expr-F.Parenthesized place inner) (outs-Parenthesized place inner) has))
       (λ p place x rest has fs zs low l free e. absurd (no_operator o (expr.Prefix p place x) (Expr-F.Prefix p place x) (outs-Prefix p place x) has))
       (λ p place x y rest has fs zs low l free e.
-        let h = infix_height p place x y in
-        let q = infix_parts p place x y l in
-        let low_x : height x ≤ levels = omega arith in
-        let so : p ≡ o = no_operator o (expr.Infix p place x y) (Expr-F.Infix p place x y) (outs-Infix p place x y) has in
-        let same = ap layer_of so ∙ is in
-        subst (λ (r : InfixOp). combination marked below levels fs ≡ chained marked below levels (chain.Logical r) (measure (expr.Infix p place x y)) zs) so
-        (combination_case p place x y fs zs same low l free e (subst (λ (a : Layer). FitsLeft a p x) same q.2)
-        (λ g f. subst (λ (r : InfixOp). combination marked below levels fs ≡ chained marked below levels (chain.Logical r) (measure x) (from_operator p place y zs)) (sym so)
-        (rest x (infix_less p place x y) (subst (λ (r : InfixOp). HasOperator r x) so g) fs (from_operator p place y zs) low_x q.0 f (e ∙ flat p place x y zs)))))
+      let h = infix_height p place x y in
+      let q = infix_parts p place x y l in
+      let low_x : height x ≤ levels = omega arith in
+      let so : p ≡ o = no_operator o (expr.Infix p place x y) (Expr-F.Infix p place x y) (outs-Infix p place x y) has in
+      let same = ap layer_of so ∙ is in
+      subst (λ (r : InfixOp). combination marked below levels fs ≡ chained marked below levels (chain.Logical r) (measure (expr.Infix p place x y)) zs) so
+      (combination_case p place x y fs zs same low l free e (subst (λ (a : Layer). FitsLeft a p x) same q.2)
+      (λ g f. subst (λ (r : InfixOp). combination marked below levels fs ≡ chained marked below levels (chain.Logical r) (measure x) (from_operator p place y zs)) (sym so)
+      (rest x (infix_less p place x y) (subst (λ (r : InfixOp). HasOperator r x) so g) fs (from_operator p place y zs) low_x q.0 f (e ∙ flat p place x y zs)))))
       (λ p place x path parts rest has fs zs low l free e. absurd (no_operator o (expr.InType p place x path parts) (Expr-F.InType p place x path parts) (outs-InType p place x path parts) has))
       (λ p place x a b rest has fs zs low l free e. absurd (no_operator o (expr.InRange p place x a b) (Expr-F.InRange p place x a b) (outs-InRange p place x a b) has)))
 
@@ -834,14 +834,14 @@ module _ (marked : Bool) (below : Layer → Reader Tall) (levels : ℕ) (shrinks
   combination_again = by_kind (Told marked (combination marked below levels) levels layer.Expression)
       (λ x p fs zs low l r free e. combination_plain x fs zs low l (omega arith) free e)
       (λ o place x fs zs low l r free e.
-        let a = ap rank (prefix_layer o place x) in
-        combination_plain (expr.Prefix o place x) fs zs low l (elim (before_cases o) [ inl is ↦ let h = ap rank is.0 in omega arith | inr is ↦ let h = ap rank is.0 in omega arith ]) free e)
+      let a = ap rank (prefix_layer o place x) in
+      combination_plain (expr.Prefix o place x) fs zs low l (elim (before_cases o) [ inl is ↦ let h = ap rank is.0 in omega arith | inr is ↦ let h = ap rank is.0 in omega arith ]) free e)
       (λ o place x y fs zs low l r free e.
-        let a = ap rank (infix_layer o place x y) in
-        elim (layers layer.Expression (layer_of o) (omega arith)) [
-          | inl is ↦ record { is = combination_goes o is (expr.Infix o place x y) (infix_has o place x y) fs zs low l (omega arith) e ∙ over (chain.Logical o) (expr.Infix o place x y) zs free }
-          | inr lower ↦ combination_plain (expr.Infix o place x y) fs zs low l (omega arith) free e
-        ])
+      let a = ap rank (infix_layer o place x y) in
+      elim (layers layer.Expression (layer_of o) (omega arith)) [
+        | inl is ↦ record { is = combination_goes o is (expr.Infix o place x y) (infix_has o place x y) fs zs low l (omega arith) e ∙ over (chain.Logical o) (expr.Infix o place x y) zs free }
+        | inr lower ↦ combination_plain (expr.Infix o place x y) fs zs low l (omega arith) free e
+      ])
       (λ o place x path parts fs zs low l r free e. let a = ap rank (in_type_layer o place x path parts) in combination_plain (expr.InType o place x path parts) fs zs low l (omega arith) free e)
       (λ o place x a b fs zs low l r free e. let c = ap rank (in_range_layer o place x a b) in combination_plain (expr.InRange o place x a b) fs zs low l (omega arith) free e)
 
@@ -871,14 +871,14 @@ module _ (marked : Bool) (below : Layer → Reader Tall) (levels : ℕ) (shrinks
   connection_again = by_kind (Told marked (connection marked below levels) levels layer.Predicate)
       (λ x p fs zs low l r free e. connection_plain x fs zs low l (omega arith) free e)
       (λ o place x fs zs low l r free e.
-        let a = ap rank (prefix_layer o place x) in
-        connection_plain (expr.Prefix o place x) fs zs low l (elim (before_cases o) [ inl is ↦ let h = ap rank is.0 in omega arith | inr is ↦ let h = ap rank is.0 in omega arith ]) free e)
+      let a = ap rank (prefix_layer o place x) in
+      connection_plain (expr.Prefix o place x) fs zs low l (elim (before_cases o) [ inl is ↦ let h = ap rank is.0 in omega arith | inr is ↦ let h = ap rank is.0 in omega arith ]) free e)
       (λ o place x y fs zs low l r free e.
-        let a = ap rank (infix_layer o place x y) in
-        elim (layers layer.Predicate (layer_of o) (omega arith)) [
-          | inl is ↦ connection_joined o place x y fs zs is low l free e
-          | inr lower ↦ connection_plain (expr.Infix o place x y) fs zs low l (omega arith) free e
-        ])
+      let a = ap rank (infix_layer o place x y) in
+      elim (layers layer.Predicate (layer_of o) (omega arith)) [
+        | inl is ↦ connection_joined o place x y fs zs is low l free e
+        | inr lower ↦ connection_plain (expr.Infix o place x y) fs zs low l (omega arith) free e
+      ])
       (λ o place x path parts fs zs low l r free e. let a = ap rank (in_type_layer o place x path parts) in connection_plain (expr.InType o place x path parts) fs zs low l (omega arith) free e)
       (λ o place x a b fs zs low l r free e. let c = ap rank (in_range_layer o place x a b) in connection_plain (expr.InRange o place x a b) fs zs low l (omega arith) free e)
 
@@ -915,7 +915,7 @@ name_again marked levels x fs zs f free e =
     let same = below marked (suc levels) in
     let good = below_good marked levels in
     reaches_bind _ (name_reached marked lower levels (parts_shrinks marked lower same levels good) (formals_shrink marked lower same levels good) (steps_shrink marked lower same levels good) (below_again marked levels) x.path x.parts fs zs f.0
-        (parts_of levels (layers_of x.path.steps) x.parts f.1) (parts_low levels (layers_of x.path.steps) x.parts f.1) free e) (λ us a. reaches_pure a)
+    (parts_of levels (layers_of x.path.steps) x.parts f.1) (parts_low levels (layers_of x.path.steps) x.parts f.1) free e) (λ us a. reaches_pure a)
 
 -- an identifier comes first
 pub name_front : (marked : Bool) (x : Name) (zs : List Form) → peek marked (written_name marked x ++ zs) ≡ Some k.Identifier

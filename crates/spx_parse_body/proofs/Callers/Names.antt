@@ -92,7 +92,7 @@ steps_more marked (r ∷ steps) parts s own e f =
     let rest : length (drop (takes r) parts) ≡ taken steps = omega arith in
     append_assoc (written_step marked r (take (takes r) parts)) (written_steps marked steps (drop (takes r) parts)) (written_step marked s own)
     ∙ ap₂ (λ (a : List (List Form)) (b : List Form). written_step marked r a ++ b) (sym (take-append-le (takes r) parts own le))
-        (steps_more marked steps (drop (takes r) parts) s own rest f ∙ ap (written_steps marked (steps ++ s ∷ [])) (sym (drop-append-le (takes r) parts own le)))
+    (steps_more marked steps (drop (takes r) parts) s own rest f ∙ ap (written_steps marked (steps ++ s ∷ [])) (sym (drop-append-le (takes r) parts own le)))
 
 pub tops_append : (xs ys : List Expr) → tops (map height (xs ++ ys)) ≡ max (tops (map height xs)) (tops (map height ys))
 tops_append [] ys = omega arith
@@ -253,8 +253,8 @@ pub more_named_text : (marked : Bool) (levels : ℕ) (p : Parts) (x : Identifier
 more_named_text marked levels p x f =
     separated_more marked (named_parts marked p.names (map (written_expr marked) p.exprs)) (spelled_association marked x) (some_associations marked p.names p.exprs f.same f.parts.parts)
     ∙ ap (separated (bare marked k.Comma) same_forms)
-      (named_more marked p.names (map (written_expr marked) p.exprs) x.0 (spelled marked x.1) (f.same ∙ sym (length-map p.exprs (written_expr marked)))
-      ∙ ap (named_parts marked (p.names ++ x.0 ∷ [])) (sym (map-append (written_expr marked) p.exprs (x.1.expr ∷ []))))
+    (named_more marked p.names (map (written_expr marked) p.exprs) x.0 (spelled marked x.1) (f.same ∙ sym (length-map p.exprs (written_expr marked)))
+    ∙ ap (named_parts marked (p.names ++ x.0 ∷ [])) (sym (map-append (written_expr marked) p.exprs (x.1.expr ∷ []))))
 
 pub first_named_text : (marked : Bool) (name : Identifier) (t : Tall) → named marked name ∷ bare marked k.Arrow ∷ spelled marked t ≡ spelled_named marked (with_named no_parts (name, t))
 first_named_text marked name t = sym (append-nil (named marked name ∷ bare marked k.Arrow ∷ spelled marked t))

@@ -232,9 +232,9 @@ module _ (marked : Bool) (below : Layer → Reader Tall) (levels : ℕ) (part_sh
       reaches_is (named_turn p n names x xs)
       (reaches_turn (sees marked k.Comma) (named_step marked below levels) (named_shrinks some) (ap (named_step marked below levels p) (ap (sees marked k.Comma) flat ∙ comma_here (named_form marked n ∷ bare marked k.Arrow ∷ (written_expr marked x ++ (after ++ from_close zs)))))
       (reaches_bind _
-        (reaches_bind _ (reaches_expect marked k.Comma flat) (λ us a.
-        reaches_bind _ (reaches_identifier marked a) (λ vs b.
-        reaches_bind _ (reaches_bind _ (reaches_expect marked k.Arrow b) (λ ws d. part_again some x ws (after ++ from_close zs) (omega arith) f.0 (following_free (named_parts marked names (map (written_expr marked) xs)) zs) d)) (λ ts d. reaches_pure d))))
+      (reaches_bind _ (reaches_expect marked k.Comma flat) (λ us a.
+      reaches_bind _ (reaches_identifier marked a) (λ vs b.
+      reaches_bind _ (reaches_bind _ (reaches_expect marked k.Arrow b) (λ ws d. part_again some x ws (after ++ from_close zs) (omega arith) f.0 (following_free (named_parts marked names (map (written_expr marked) xs)) zs) d)) (λ ts d. reaches_pure d))))
       (λ us a. reaches_pure a))
       (λ us a. more_named_again some (with_named p (n, measure x)) names xs us zs (omega arith) f.1 (omega arith) a))
 
@@ -377,8 +377,8 @@ module _ (marked : Bool) (below : Layer → Reader Tall) (levels : ℕ) (part_sh
       let low_rest : tops (map height rest) ≤ levels = omega arith in
       let after : List Form = written_steps marked ss (map (written_expr marked) rest) in
       let flat : fs ≡ written_step marked s (map (written_expr marked) own) ++ (after ++ zs) =
-        e ∙ ap₂ (λ (ws : List (List Form)) (us : List (List Form)). (written_step marked s ws ++ written_steps marked ss us) ++ zs) (take-map (written_expr marked) (takes s) parts) (drop-map (written_expr marked) (takes s) parts)
-        ∙ append_assoc (written_step marked s (map (written_expr marked) own)) after zs in
+      e ∙ ap₂ (λ (ws : List (List Form)) (us : List (List Form)). (written_step marked s ws ++ written_steps marked ss us) ++ zs) (take-map (written_expr marked) (takes s) parts) (drop-map (written_expr marked) (takes s) parts)
+      ∙ append_assoc (written_step marked s (map (written_expr marked) own)) after zs in
       reaches_is (steps_turn s ss own rest parts n cut)
       (reaches_turn (peek marked) (name_step marked below levels) name_shrinks (ap (name_step_by marked below levels n) (ap step_of (peek_front marked fs flat) ∙ step_seen marked s (map (written_expr marked) own) (after ++ zs)))
       (step_again s n own fs (after ++ zs) is.0 both.0 low_own flat) (λ us a. steps_again ss rest (with_step s own (tops (map height own)) n) us zs is.1 both.1 low_rest free a))
