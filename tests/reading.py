@@ -671,6 +671,28 @@ class EnumerationDeclaration:
 
 
 @dataclass(frozen=True)
+class ArrayDeclaration:
+    """`type name is array (index) of element;`"""
+    name: Name
+    index: Union[Name, Attribute]
+    element: Union[Name, Attribute]
+
+
+@dataclass(frozen=True)
+class FieldDeclaration:
+    """`names : type_mark;` in a record type."""
+    names: list
+    type_mark: Union[Name, Attribute]
+
+
+@dataclass(frozen=True)
+class RecordDeclaration:
+    """`type name is record fields end record;`"""
+    name: Name
+    fields: list
+
+
+@dataclass(frozen=True)
 class SubtypeDeclaration:
     """`subtype name is parent;`, or with `range low .. high` after the parent."""
     name: Name
@@ -901,15 +923,44 @@ class Parser:
         return ConstantDeclaration(names, type_mark, self.expression(False, 0))
 
     def type_declaration(self):
-        """id "is" ("range" sum ".." sum | "(" ids ")")"""
+        """id "is" ("range" sum ".." sum | "(" ids ")" | "array" "(" name ")" "of" name | "record" field {field} "end" "record")"""
         name = self.identifier()
         self.take('is')
         if self.take_if('range'):
             return RangeDeclaration(name, *self.range())
+        if self.take_if('array'):
+            return ArrayDeclaration(name, *self.index_and_element())
+        if self.take_if('record'):
+            return RecordDeclaration(name, self.fields())
         self.take('(')
         literals = self.identifiers()
         self.take(')')
         return EnumerationDeclaration(name, literals)
+
+    def index_and_element(self):
+        """"(" name ")" "of" name"""
+        self.take('(')
+        index = self.name()
+        self.take(')')
+        self.take('of')
+        return index, self.name()
+
+    def fields(self):
+        """field {field} "end" "record" """
+        fields = [self.field()]
+        while self.next_is('identifier'):
+            fields.append(self.field())
+        self.take('end')
+        self.take('record')
+        return fields
+
+    def field(self):
+        """ids ":" name ";" """
+        names = self.identifiers()
+        self.take(':')
+        type_mark = self.name()
+        self.take(';')
+        return FieldDeclaration(names, type_mark)
 
     def subtype_declaration(self):
         """id "is" name ["range" sum ".." sum]"""

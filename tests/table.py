@@ -551,6 +551,39 @@ DECLARED_TOKENS = (
     *plain('2 ; \n begin \n X := Two ; \n end Dcl ;'),
 )
 
+# A text with an array type.
+ARRAY_TOKENS = (
+    *plain('procedure Arr ( X : out Integer ) \n--# derives X from ; \n is \n type Row is'),
+    ('word_array', 'array', 'access'),
+    ('parenthesis_of_an_index', '(', '<'),
+    ('index', 'Boolean', '1'),
+    ('parenthesis_after_an_index', ')', ','),
+    ('of_an_array', 'of', 'in'),
+    ('element', 'Integer', 'array'),
+    ('semicolon_of_an_array', ';', ':='),
+    *plain('\n begin \n X := 1 ; \n end Arr ;'),
+)
+
+# A text with a record type.
+RECORD_TOKENS = (
+    *plain('procedure Rec ( X : out Integer ) \n--# derives X from ; \n is \n type Pair is'),
+    ('word_record', 'record', 'tagged'),
+    ('field', 'P', '1'),
+    ('comma_of_fields', ',', ';'),
+    ('second_field', 'Q', 'null'),
+    ('colon_of_fields', ':', ':='),
+    ('type_of_fields', 'Integer', 'constant'),
+    ('semicolon_of_fields', ';', ','),
+    ('later_field', 'R', 'case'),
+    ('colon_of_a_later_field', ':', ';'),
+    ('type_of_a_later_field', 'Boolean', 'array'),
+    ('semicolon_of_a_later_field', ';', ':='),
+    ('end_of_a_record', 'end', 'begin'),
+    ('record_after_end', 'record', 'Pair'),
+    ('semicolon_of_a_record', ';', ','),
+    *plain('\n begin \n X := 1 ; \n end Rec ;'),
+)
+
 # A text with a `case` and a conversion.
 CASE_TOKENS = (
     *plain('procedure Cas ( A : in Integer ; X : out Integer ) \n--# derives X from A ; \n is \n begin \n'),
@@ -615,7 +648,8 @@ COUNT_TOKENS = (
     *plain(':= I ; end loop ; \n end Cnt ;'),
 )
 
-TOKEN_LISTS = (TOKENS, LOCAL_TOKENS, ATTRIBUTE_TOKENS, SKIP_TOKENS, IF_TOKENS, DECLARED_TOKENS, CASE_TOKENS, LOOP_TOKENS, COUNT_TOKENS)
+TOKEN_LISTS = (TOKENS, LOCAL_TOKENS, ATTRIBUTE_TOKENS, SKIP_TOKENS, IF_TOKENS, DECLARED_TOKENS, ARRAY_TOKENS, RECORD_TOKENS, CASE_TOKENS, LOOP_TOKENS,
+               COUNT_TOKENS)
 
 # What a text is without a token: which token after it is unexpected, if not the next one; or a finding, and the token
 # at which it is; or that it is accepted.
@@ -628,6 +662,8 @@ MISSING = {'in': ('U8', 'import'), 'out': ('U8', 'export'), 'import': ('U8', 'ex
            'if': 2, 'elsif': 2, 'else': lambda name, text: accepted(name, text, 3, named='Lim'), 'end_of_an_if': 2,
            # a name and `is`; a named number
            'word_type': 2, 'word_subtype': 2,
+           # a literal in parentheses, and `of`
+           'word_array': 4,
            # a variable with a value
            'word_constant': lambda name, text: accepted(name, text, 1, named='Dcl'),
            # a target and `is`; a `case` and `;`
@@ -5057,6 +5093,58 @@ def syntax_of_declarations():
                         "TYPE t IS RANGE 1 .. 5; SubType S Is T Range T'First .. 3; c : CONSTANT s := 2; V : T")
 
 
+def syntax_of_arrays():
+    """Tokens with which no array type goes on: it has one index, which is a name, and is declared by a name of its own."""
+    for name, declared in {
+            'array_of_two_indexes': 'type T is array (Boolean@, Boolean) of Integer', 'array_of_bounds': 'type T is array (@1 .. 5) of Integer',
+            'array_of_bounds_by_names': 'type T is array (A @.. A) of Integer', 'array_of_a_range': 'type T is array (Integer @range 1 .. 5) of Integer',
+            'array_of_a_box': 'type T is array (Integer @range <>) of Integer', 'array_of_a_range_of_a_type': "type T is array (Boolean'@Range) of Integer",
+            'array_of_an_index_in_parentheses': 'type T is array (@(Boolean)) of Integer',
+            'array_of_an_array': 'type T is array (Boolean) of @array (Boolean) of Integer',
+            'array_of_a_record': 'type T is array (Boolean) of @record P : Integer; end record',
+            'array_of_a_range_of_elements': 'type T is array (Boolean) of Integer @range 1 .. 5',
+            'array_of_aliased_elements': 'type T is array (Boolean) of @aliased Integer', 'array_of_a_number': 'type T is array (Boolean) of @5',
+            'array_of_elements_in_parentheses': 'type T is array (Boolean) of @(Integer)',
+            'array_with_a_value': 'type T is array (Boolean) of Integer @:= 1', 'array_word_first': '@array T (Boolean) of Integer',
+            'variable_of_an_array': 'V : @array (Boolean) of Integer', 'constant_of_an_array': 'C : constant @array (Boolean) of Integer := 1',
+            'subtype_of_an_array': 'subtype S is @array (Boolean) of Integer',
+            'variable_with_an_index': 'V : Integer @(1 .. 5)', 'subtype_with_an_index': 'subtype S is Integer @(1 .. 5)',
+            'marked_array': 'type T is --# @array\n(Boolean) of Integer', 'marked_index': 'type T is array ( --# @Boolean\n) of Integer',
+            'marked_of': 'type T is array (Boolean) --# @of\nInteger', 'marked_element': 'type T is array (Boolean) of --# @Integer\n'}.items():
+        yield unexpected(f'{name}.adb', declaring(declared))
+    yield unexpected('formal_of_an_array.adb', declaring('V : Integer', params='A : in @array (Boolean) of Integer; X : in out Integer'))
+    yield unexpected('parentheses_for_an_index.adb', declaring('type T is array (@' + '(' * 201 + 'Red'))
+    yield unexpected('array_at_the_end_of_the_text.adb', COPY.split('begin')[0] + '   type T is array (Boolean) of\n@')
+
+
+def syntax_of_records():
+    """Tokens with which no record type goes on: it has one field or more, each of a type by its name and without a value."""
+    for name, declared in {
+            'record_without_fields': 'type T is record @end record', 'record_of_null': 'type T is record @null; end record',
+            'null_record': 'type T is @null record', 'record_of_a_semicolon': 'type T is record @; P : Integer; end record',
+            'record_of_a_type': 'type T is record @type U is range 1 .. 5; end record',
+            'record_of_fields_in_parentheses': 'type T is record @(P : Integer); end record',
+            'field_with_a_value': 'type T is record P : Integer @:= 1; end record', 'field_with_a_range': 'type T is record P : Integer @range 1 .. 5; end record',
+            'field_with_an_index': 'type T is record P : Integer @(1 .. 5); end record', 'field_with_a_mode': 'type T is record P : @in Integer; end record',
+            'aliased_field': 'type T is record P : @aliased Integer; end record',
+            'field_of_an_array': 'type T is record P : @array (Boolean) of Integer; end record',
+            'field_of_a_record': 'type T is record P : @record Q : Integer; end record; end record',
+            'field_of_an_attribute': "type T is record P@'First : Integer; end record", 'fields_with_a_bar': 'type T is record P @| Q : Integer; end record',
+            'variant_of_a_record': 'type T is record P : Boolean; @case P is when True => Q : Integer; end case; end record',
+            'discriminant_of_a_record': 'type T @(P : Boolean) is record Q : Integer; end record',
+            'limited_record': 'type T is @limited record P : Integer; end record', 'record_with_an_end_name': 'type T is record P : Integer; end record @T',
+            'record_with_a_value': 'type T is record P : Integer; end record @:= 1', 'record_word_first': '@record T is P : Integer; end record',
+            'variable_of_a_record': 'V : @record P : Integer; end record', 'constant_of_a_record': 'C : constant @record P : Integer; end record := 1',
+            'subtype_of_a_record': 'subtype S is @record P : Integer; end record',
+            'marked_record': 'type T is --# @record\nP : Integer; end record', 'marked_field': 'type T is record --# @P\n: Integer; end record',
+            'marked_later_field': 'type T is record P : Integer; --# @Q : Boolean;\nend record',
+            'marked_end_of_a_record': 'type T is record P : Integer; --# @end\nrecord'}.items():
+        yield unexpected(f'{name}.adb', declaring(declared))
+    yield unexpected('record_without_its_end.adb', declaring('type T is record P : Integer').replace('begin', '@begin'))
+    yield unexpected('formal_of_a_record.adb', declaring('V : Integer', params='A : in @record P : Integer; end record; X : in out Integer'))
+    yield unexpected('record_at_the_end_of_the_text.adb', COPY.split('begin')[0] + '   type T is record P : Integer;\n@')
+
+
 # A text with declarations of all forms that keeps every rule, with its parts, as in `KEPT`.
 KEPT_TYPES = '''procedure Mix (A : in {formal}; B : in Boolean; X : out Integer)
 --# {derives} X from A, B{item};
@@ -7202,7 +7290,7 @@ GROUPS = (form, relations, simplifier, numbers, places, words, layout, comments,
           declared_constants, assigned_constants, matching_types, enumerations, values_of_declarations, conditions_of_types,
           powers_of_types, universal_powers_of_right_sides, universal_powers_beside_operands, universal_powers_in_relations,
           universal_powers_in_tests, universal_powers_of_bounds, universal_powers_that_meet_nothing, universal_powers_that_should_be_static,
-          universal_powers_in_annotations, checks_of_universal_powers, conditions_of_enumerations, flow_of_types, levels_of_declarations, syntax_of_declarations,
+          universal_powers_in_annotations, checks_of_universal_powers, conditions_of_enumerations, flow_of_types, levels_of_declarations, syntax_of_declarations, syntax_of_arrays, syntax_of_records,
           breaches_of_declarations, functions_of_types, conditions_of_functions, flow_of_functions, syntax_of_functions,
           initial_values, values_of_choices, rules_of_choices, conditions_of_cases, flow_of_cases, syntax_of_cases,
           places_of_checks, syntax_of_checks, syntax_of_predicates, cut_and_spoiled, rules_of_predicates, flow_of_checks,

@@ -4,6 +4,7 @@ use Rattle.spx_tree.specs.declared.token.Kind.TheVariants as k
 use Rattle.spx_tree.specs.declared.expression.Identifier.{Identifier}
 use Rattle.spx_tree.specs.declared.expression.Name.{Name}
 use Rattle.spx_tree.specs.declared.declaration.Decl.{Decl}
+use Rattle.spx_tree.specs.declared.declaration.FieldDecl.{FieldDecl}
 use Rattle.spx_tree.specs.declared.annotation.DerivesItem.{DerivesItem}
 use Rattle.spx_tree.specs.declared.subprogram.Param.{Param}
 use Rattle.spx_tree.specs.declared.subprogram.Unit.{Unit}
@@ -11,9 +12,9 @@ use Rattle.spx_tree.specs.Form.{Form}
 use Rattle.spx_tree.specs.Written.{program, annotation}
 use Rattle.spx_cursor.specs.Reading.{◌>>◌, sees, expect, identifier, loop, item_step}
 use Rattle.spx_parse_body.specs.Expressions.{name}
-use Rattle.spx_parse_unit.specs.Units.{more_identifiers, more_names, item, more_derives, param, more_params, declaration, sees_declaration, more_declarations, unit_at, more_units}
+use Rattle.spx_parse_unit.specs.Units.{more_identifiers, more_names, item, more_derives, param, more_params, field, more_fields, declaration, sees_declaration, more_declarations, unit_at, more_units}
 use Rattle.spx_parse_body.proofs.Callers.Turns.{items_by, items_is, next_by, next_is}
-use Rattle.spx_parse_unit.proofs.UnitsGood.{identifiers_shrinks, names_shrinks, derives_shrinks, params_shrinks, declarations_shrinks, units_shrinks}
+use Rattle.spx_parse_unit.proofs.UnitsGood.{identifiers_shrinks, names_shrinks, derives_shrinks, params_shrinks, fields_shrinks, declarations_shrinks, units_shrinks}
 
 pub more_identifiers_is : (marked : Bool) (found : List Identifier) (fs : List Form) → more_identifiers marked found fs ≡ next_by marked k.Comma (identifier marked) (more_identifiers marked) found (sees marked k.Comma fs) fs
 unfolding more_identifiers
@@ -38,6 +39,10 @@ unfolding more_params
 more_params_is found fs =
     items_is (sees program k.Semicolon) (expect program k.Semicolon >> param) params_shrinks found fs
     ∙ next_is program k.Semicolon param (loop (sees program k.Semicolon) (item_step (expect program k.Semicolon >> param))) found (sees program k.Semicolon fs) fs
+
+pub more_fields_is : (found : List FieldDecl) (fs : List Form) → more_fields found fs ≡ items_by field more_fields found (sees program k.Identifier fs) fs
+unfolding more_fields
+more_fields_is found fs = items_is (sees program k.Identifier) field fields_shrinks found fs
 
 pub more_declarations_is : (levels : ℕ) (found : List Decl) (fs : List Form) → more_declarations levels found fs ≡ items_by (declaration levels) (more_declarations levels) found (sees_declaration fs) fs
 unfolding more_declarations

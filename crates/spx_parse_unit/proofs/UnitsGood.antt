@@ -1,6 +1,6 @@
 -- The readers of declarations, annotations, subprograms and units keep the laws of readers.
 use Rattle.std.specs.Prelude.{⊤}
-use Rattle.std.proofs.Common.{◌≡◌, ℕ, suc, Bool, true, List, [], ◌∷◌, ◌++◌, Option, Some, None, refl, ap, append_assoc}
+use Rattle.std.proofs.Common.{◌≡◌, ℕ, suc, Bool, true, List, [], ◌∷◌, ◌++◌, map, Option, Some, None, refl, ap, append_assoc}
 use Rattle.std.proofs.lemmas.List.{append-nil}
 use Rattle.spx_text.specs.declared.place.Place.{Place}
 use Rattle.spx_tree.specs.declared.token.Kind.{Kind}
@@ -14,17 +14,17 @@ use Rattle.spx_tree.specs.declared.annotation.Imports.{Imports}
 use Rattle.spx_tree.specs.declared.subprogram.WrittenMode.TheVariants as modes
 use Rattle.spx_tree.specs.declared.subprogram.Unit.TheVariants as unit
 use Rattle.spx_tree.specs.Form.{Form, bare, placed, named}
-use Rattle.spx_tree.specs.Written.{program, annotation, following, separated, optional, written_identifier, written_identifiers, written_name, written_names, written_constraint, written_definition, written_initial, written_decl, written_decls, written_stmts, written_imports, written_item, written_derives, written_pre, written_post, written_mode, written_param, written_params, written_formal_part, written_subprogram, written_unit, written}
-use Rattle.spx_tree.specs.Grammar.{Each, OneOrMore, IfThere, IsIdentifiers, IsNames, IsExpr, IsRange, IsDefinition, IsDecl, IsStmts, IsItem, IsDerives, IsPredicate, IsParam, IsFormalPart, IsSubprogram, IsUnit, IsFile}
+use Rattle.spx_tree.specs.Written.{program, annotation, joined, following, separated, optional, written_identifier, written_identifiers, written_name, written_names, written_constraint, written_field, written_definition, written_initial, written_decl, written_decls, written_stmts, written_imports, written_item, written_derives, written_pre, written_post, written_mode, written_param, written_params, written_formal_part, written_subprogram, written_unit, written}
+use Rattle.spx_tree.specs.Grammar.{Each, OneOrMore, IfThere, IsIdentifiers, IsNames, IsExpr, IsRange, IsFieldDecl, IsDefinition, IsDecl, IsStmts, IsItem, IsDerives, IsPredicate, IsParam, IsFormalPart, IsSubprogram, IsUnit, IsFile}
 use Rattle.spx_cursor.specs.Reading.{◌>>◌, peek, sees, expect, identifier, item_step}
 use Rattle.spx_parse_body.specs.Expressions.{name}
 use Rattle.spx_parse_unit.specs.declared.subprograms.HeadingParts.{HeadingParts}
 use Rattle.spx_parse_unit.specs.declared.subprograms.BodyParts.{BodyParts}
-use Rattle.spx_parse_unit.specs.Units.{more_identifiers, identifiers, more_names, names, starred, unstarred, imports_by, imports, named_item, null_item, item_by, item, more_derives, items, derives, in_by, following_in, mode_by, mode, param, more_params, params, formal_part, integer, enumeration, definition_by, definition, full_type, subtype, initial, variables, constants, objects_by, objects_after, objects, declaration_by, declaration, starts_declaration, sees_declaration, more_declarations, declarations, heading, body, whole, subprogram, unit_at, more_units, file}
+use Rattle.spx_parse_unit.specs.Units.{more_identifiers, identifiers, more_names, names, starred, unstarred, imports_by, imports, named_item, null_item, item_by, item, more_derives, items, derives, in_by, following_in, mode_by, mode, param, more_params, params, formal_part, integer, enumeration, array, field, fields, record_definition, more_fields, definition_by, definition, full_type, subtype, initial, variables, constants, objects_by, objects_after, objects, declaration_by, declaration, starts_declaration, sees_declaration, more_declarations, declarations, heading, body, whole, subprogram, unit_at, more_units, file}
 use Rattle.spx_parse_body.proofs.Callers.Loops.{Shrinks}
 use Rattle.spx_parse_body.proofs.Callers.Lawful.{Ends, Any, Sees, Always}
 use Rattle.spx_parse_body.proofs.Callers.Good.{Good, Starts, Case, Adds, absent, present, good_bind, good_as, good_pure, good_refuse, good_fewer, good_choose, good_before, good_given, good_expect, good_expect_place, good_identifier, good_option, good_more, list_shrinks, starts_bind, starts_choose, starts_expect, starts_place, starts_identifier}
-use Rattle.spx_parse_body.proofs.Callers.Separated.{sees_kind, all_added, joined_added, next, following_added, separated_adds, next_starts, good_separated, separated_shrinks, good_items, items_shrinks, good_if_seen}
+use Rattle.spx_parse_body.proofs.Callers.Separated.{sees_kind, all_added, joined_added, next, following_added, separated_adds, next_starts, good_separated, separated_shrinks, good_items, good_some_items, items_shrinks, good_if_seen}
 use Rattle.spx_parse_body.proofs.Callers.ExpressionsGood.{name_starts, name_good, expression_good, predicate_after_starts}
 use Rattle.spx_parse_body.proofs.Callers.StatementsGood.{constraint_starts, stmts_good}
 
@@ -212,12 +212,59 @@ enumeration_starts levels here =
     good_bind (good_expect program k.RightParenthesis) (λ u.
     good_pure (defined.Enumeration place literals) (λ l w. refl) (λ l w. w.0.1))))
 
+array_starts : {L P : Type 0} {on : List Form → Type 0} (levels : ℕ) → ((fs : List Form) → on fs → peek program fs ≡ Some k.Array) → Starts L P written_definition (IsDefinition levels) [] on array array
+unfolding array
+array_starts levels here =
+    starts_bind (starts_expect program k.Array here refl) (λ u.
+    good_bind (good_expect_place program k.LeftParenthesis) (λ place.
+    good_bind (name_good program) (λ index.
+    good_bind (good_expect program k.RightParenthesis) (λ v.
+    good_bind (good_expect program k.Of) (λ s.
+    good_bind (name_good program) (λ element.
+    good_pure (defined.Array place index element) (λ l w. simp append_assoc) (λ l w. tt)))))))
+
+field_starts : {L P : Type 0} {on : List Form → Type 0} → ((fs : List Form) → on fs → peek program fs ≡ Some k.Identifier) → Starts L P written_field IsFieldDecl [] on field field
+unfolding field
+field_starts here =
+    starts_bind (identifiers_starts program here) (λ names.
+    good_bind (good_expect program k.Colon) (λ u.
+    good_bind (name_good program) (λ type_name.
+    good_bind (good_expect program k.Semicolon) (λ v.
+    good_pure (record { names = names; type_name = type_name }) (λ l w. simp append_assoc) (λ l w. w.0.0.0.1)))))
+
+field_good : {L P : Type 0} → Good L P written_field IsFieldDecl [] Any field field
+unfolding field
+field_good =
+    good_bind (identifiers_good program) (λ names.
+    good_bind (good_expect program k.Colon) (λ u.
+    good_bind (name_good program) (λ type_name.
+    good_bind (good_expect program k.Semicolon) (λ v.
+    good_pure (record { names = names; type_name = type_name }) (λ l w. simp append_assoc) (λ l w. w.0.0.0.1)))))
+
+pub fields_shrinks : Shrinks (sees program k.Identifier) (item_step field)
+fields_shrinks = items_shrinks written_field IsFieldDecl (sees program k.Identifier) (λ t xs ys. refl) refl {L = ⊤} (field_starts (sees_kind program k.Identifier)) tt
+
+fields_good : {L P : Type 0} → Good L P (λ xs. joined (map written_field xs)) (OneOrMore IsFieldDecl) [] Any fields fields
+unfolding fields more_fields
+fields_good = good_some_items written_field IsFieldDecl (sees program k.Identifier) (λ t xs ys. refl) refl (field_starts (sees_kind program k.Identifier)) field_good
+
+record_starts : {L P : Type 0} {on : List Form → Type 0} (levels : ℕ) → ((fs : List Form) → on fs → peek program fs ≡ Some k.Record) → Starts L P written_definition (IsDefinition levels) [] on record_definition record_definition
+unfolding record_definition
+record_starts levels here =
+    starts_bind (starts_expect program k.Record here refl) (λ u.
+    good_bind fields_good (λ fields.
+    good_bind (good_expect_place program k.End) (λ end.
+    good_bind (good_expect program k.Record) (λ v.
+    good_pure (defined.Record fields end) (λ l w. simp append_assoc) (λ l w. w.0.0.1)))))
+
 definition_ends : (levels : ℕ) → Ends written_definition (IsDefinition levels) []
 definition_ends levels = ((enumeration_starts {L = ⊤} {P = ⊤} {on = λ fs. peek program fs ≡ Some k.LeftParenthesis} levels (λ fs here. here)).good.law tt tt).ends
 
 definition_case : {L P : Type 0} (levels : ℕ) (kind : Option Kind) → Good L P written_definition (IsDefinition levels) [] (Sees (peek program) kind) (definition_by levels kind) (definition_by (suc levels) kind)
 definition_case levels (Some k.Range) = (integer_starts levels (λ fs here. here)).good
 definition_case levels (Some k.LeftParenthesis) = (enumeration_starts levels (λ fs here. here)).good
+definition_case levels (Some k.Array) = (array_starts levels (λ fs here. here)).good
+definition_case levels (Some k.Record) = (record_starts levels (λ fs here. here)).good
 definition_case levels _ = good_refuse (λ l w. definition_ends levels)
 
 definition_good : {L P : Type 0} (levels : ℕ) → Good L P written_definition (IsDefinition levels) [] Any (definition levels) (definition (suc levels))

@@ -1,6 +1,6 @@
 -- The forms of declarations, annotations, subprograms and units are read as those.
 use Rattle.std.specs.Prelude.{⊤}
-use Rattle.std.proofs.Common.{◌≡◌, ℕ, Bool, true, false, List, [], ◌∷◌, ◌++◌, Option, Some, None, refl, sym, ap, ◌∙◌, append_assoc}
+use Rattle.std.proofs.Common.{◌≡◌, ℕ, Bool, true, false, List, [], ◌∷◌, ◌++◌, map, Option, Some, None, refl, sym, ap, ◌∙◌, append_assoc}
 use Rattle.spx_text.specs.declared.place.Place.{Place}
 use Rattle.spx_tree.specs.declared.token.Kind.{Kind}
 use Rattle.spx_tree.specs.declared.token.Kind.TheVariants as k
@@ -9,6 +9,7 @@ use Rattle.spx_tree.specs.declared.expression.Name.{Name}
 use Rattle.spx_tree.specs.declared.expression.Expr.{Expr}
 use Rattle.spx_tree.specs.declared.declaration.Decl.{Decl}
 use Rattle.spx_tree.specs.declared.declaration.Decl.TheVariants as decl
+use Rattle.spx_tree.specs.declared.declaration.FieldDecl.{FieldDecl}
 use Rattle.spx_tree.specs.declared.declaration.TypeDef.{TypeDef}
 use Rattle.spx_tree.specs.declared.declaration.TypeDef.TheVariants as defined
 use Rattle.spx_tree.specs.declared.expression.Layer.TheVariants as layer
@@ -26,19 +27,19 @@ use Rattle.spx_tree.specs.declared.subprogram.Subprogram.{Subprogram}
 use Rattle.spx_tree.specs.declared.subprogram.Unit.{Unit}
 use Rattle.spx_tree.specs.declared.subprogram.Unit.TheVariants as unit
 use Rattle.spx_tree.specs.Form.{Form, bare, placed, named}
-use Rattle.spx_tree.specs.Written.{program, annotation, written_at, following, separated, optional, written_identifier, written_identifiers, written_name, written_names, written_expr, written_constraint, written_definition, written_initial, written_decl, written_decls, written_stmts, written_imports, written_item, written_derives, written_pre, written_post, written_mode, written_param, written_params, written_formal_part, written_subprogram, written_unit, written}
-use Rattle.spx_tree.specs.Grammar.{Each, OneOrMore, IfThere, IsIdentifiers, IsNames, IsExpr, IsDefinition, IsDecl, HasImportsFor, IsItem, IsDerives, IsPredicate, IsParam, IsFormalPart, IsSubprogram, IsUnit, IsFile}
+use Rattle.spx_tree.specs.Written.{program, annotation, written_at, joined, following, separated, optional, written_identifier, written_identifiers, written_name, written_names, written_expr, written_constraint, written_field, written_definition, written_initial, written_decl, written_decls, written_stmts, written_imports, written_item, written_derives, written_pre, written_post, written_mode, written_param, written_params, written_formal_part, written_subprogram, written_unit, written}
+use Rattle.spx_tree.specs.Grammar.{Each, OneOrMore, IfThere, IsIdentifiers, IsNames, IsExpr, IsFieldDecl, IsDefinition, IsDecl, HasImportsFor, IsItem, IsDerives, IsPredicate, IsParam, IsFormalPart, IsSubprogram, IsUnit, IsFile}
 use Rattle.spx_cursor.specs.Reading.{pure, peek, is_kind, sees, identifier, optional_by, if_seen}
 use Rattle.spx_parse_body.specs.Expressions.{name, predicate_after}
 use Rattle.spx_parse_unit.specs.declared.subprograms.HeadingParts.{HeadingParts}
 use Rattle.spx_parse_unit.specs.declared.subprograms.BodyParts.{BodyParts}
-use Rattle.spx_parse_unit.specs.Units.{more_identifiers, identifiers, more_names, names, starred, unstarred, imports_by, imports, named_item, null_item, item_by, item, more_derives, items, derives, in_by, following_in, mode_by, mode, param, more_params, params, formal_part, integer, enumeration, definition_by, definition, full_type, subtype, initial, variables, constants, objects_by, objects_after, objects, declaration_by, declaration, sees_declaration, more_declarations, declarations, heading, body, subprogram, unit_at, more_units, file}
+use Rattle.spx_parse_unit.specs.Units.{more_identifiers, identifiers, more_names, names, starred, unstarred, imports_by, imports, named_item, null_item, item_by, item, more_derives, items, derives, in_by, following_in, mode_by, mode, param, more_params, params, formal_part, integer, enumeration, array, field, fields, record_definition, more_fields, definition_by, definition, full_type, subtype, initial, variables, constants, objects_by, objects_after, objects, declaration_by, declaration, sees_declaration, more_declarations, declarations, heading, body, subprogram, unit_at, more_units, file}
 use Rattle.spx_parse_body.proofs.Callers.Shaped.{kind_self}
-use Rattle.spx_parse_body.proofs.Callers.Separated.{Lacks, not_seen, sees_front, reaches_following, reaches_separated, reaches_if_seen}
+use Rattle.spx_parse_body.proofs.Callers.Separated.{Lacks, not_seen, sees_front, reaches_following, reaches_separated, reaches_some_items, reaches_if_seen}
 use Rattle.spx_parse_body.proofs.Callers.Reaches.{Reaches, reaches_is, reaches_bind, reaches_pure, reaches_choose, reaches_expect, reaches_expect_place, reaches_identifier, reaches_items, peek_front}
 use Rattle.spx_parse_body.proofs.Callers.ExpressionsReach.{Free, name_again, name_front, expression_again, predicate_after_again, semicolon_free, sum_free}
 use Rattle.spx_parse_body.proofs.Callers.StatementsReach.{constraint_again, constraint_option, constraint_apart, stmts_again}
-use Rattle.spx_parse_unit.proofs.UnitsGood.{identifiers_shrinks, names_shrinks, derives_shrinks, params_shrinks, declarations_shrinks, units_shrinks}
+use Rattle.spx_parse_unit.proofs.UnitsGood.{identifiers_shrinks, names_shrinks, derives_shrinks, params_shrinks, fields_shrinks, declarations_shrinks, units_shrinks}
 
 -- ---- identifiers and names
 
@@ -212,8 +213,35 @@ type_option (Some x) fs zs h =
     reaches_choose (sees program k.Identifier) (optional_by (name program)) true (ap (sees program k.Identifier) h ∙ ap (is_kind k.Identifier) (name_front program x (bare program k.Assignment ∷ zs)) ∙ kind_self k.Identifier)
     (reaches_bind _ (name_again program x fs (bare program k.Assignment ∷ zs) (λ e. cc) h) (λ us a. reaches_pure a))
 
+-- identifiers come first
+names_first : (names : List Identifier) (ws : List Form) → IsIdentifiers names → peek program (written_identifiers program names ++ ws) ≡ Some k.Identifier
+names_first [] ws f = absurd f
+names_first (name ∷ names) ws f = refl
+
+field_text : (n t zs : List Form) → (n ++ bare program k.Colon ∷ (t ++ bare program k.Semicolon ∷ [])) ++ zs ≡ n ++ bare program k.Colon ∷ (t ++ bare program k.Semicolon ∷ zs)
+field_text n t zs = simp append_assoc
+
+field_again : (x : FieldDecl) (fs zs : List Form) → IsFieldDecl x → fs ≡ written_field x ++ zs → Reaches field fs x zs
+unfolding field
+field_again x fs zs f h =
+    let after : List Form = bare program k.Semicolon ∷ zs in
+    reaches_bind _ (identifiers_again program x.names fs (bare program k.Colon ∷ (written_name program x.type_name ++ after)) f (λ e. cc) (h ∙ field_text (written_identifiers program x.names) (written_name program x.type_name) zs)) (λ us a.
+    reaches_bind _ (reaches_expect program k.Colon a) (λ vs b.
+    reaches_bind _ (name_again program x.type_name vs after (λ e. cc) b) (λ ws d.
+    reaches_bind _ (reaches_expect program k.Semicolon d) (λ t1 a1. reaches_pure a1))))
+
+field_seen : (x : FieldDecl) (ws : List Form) → IsFieldDecl x → sees program k.Identifier (written_field x ++ ws) ≡ true
+field_seen x ws f =
+    ap (sees program k.Identifier) (field_text (written_identifiers program x.names) (written_name program x.type_name) ws)
+    ∙ ap (is_kind k.Identifier) (names_first x.names (bare program k.Colon ∷ (written_name program x.type_name ++ bare program k.Semicolon ∷ ws)) f) ∙ kind_self k.Identifier
+
+fields_again : (xs : List FieldDecl) (fs zs : List Form) → OneOrMore IsFieldDecl xs → Lacks program k.Identifier zs → fs ≡ joined (map written_field xs) ++ zs → Reaches fields fs xs zs
+unfolding fields more_fields
+fields_again xs fs zs f over h =
+    reaches_some_items written_field IsFieldDecl (sees program k.Identifier) fields_shrinks field_seen field_again xs fs zs f (not_seen program k.Identifier zs over) h
+
 definition_again : (levels : ℕ) (x : TypeDef) (fs zs : List Form) → IsDefinition levels x → fs ≡ written_definition x ++ bare program k.Semicolon ∷ zs → Reaches (definition levels) fs x (bare program k.Semicolon ∷ zs)
-unfolding definition integer enumeration
+unfolding definition integer enumeration array record_definition
 definition_again levels (defined.Integer x) fs zs f h =
     reaches_choose (peek program) (definition_by levels) (Some k.Range) (peek_front program fs h)
     (reaches_bind _ (constraint_again levels x fs (bare program k.Semicolon ∷ zs) f (semicolon_ends zs) h) (λ us a. reaches_pure a))
@@ -223,11 +251,24 @@ definition_again levels (defined.Enumeration place literals) fs zs f h =
     (reaches_bind _ (reaches_expect_place program k.LeftParenthesis flat) (λ us a.
     reaches_bind _ (identifiers_again program literals us (bare program k.RightParenthesis ∷ bare program k.Semicolon ∷ zs) f (λ e. cc) a) (λ vs b.
     reaches_bind _ (reaches_expect program k.RightParenthesis b) (λ ws d. reaches_pure d))))
-
--- identifiers come first
-names_first : (names : List Identifier) (ws : List Form) → IsIdentifiers names → peek program (written_identifiers program names ++ ws) ≡ Some k.Identifier
-names_first [] ws f = absurd f
-names_first (name ∷ names) ws f = refl
+definition_again levels (defined.Array place index element) fs zs f h =
+    let from_of : List Form = bare program k.Of ∷ written_name program element in
+    let flat = h ∙ ap (λ (us : List Form). bare program k.Array ∷ placed program k.LeftParenthesis place ∷ us) (append_assoc (written_name program index) (bare program k.RightParenthesis ∷ from_of) (bare program k.Semicolon ∷ zs)) in
+    reaches_choose (peek program) (definition_by levels) (Some k.Array) (peek_front program fs h)
+    (reaches_bind _ (reaches_expect program k.Array flat) (λ us a.
+    reaches_bind _ (reaches_expect_place program k.LeftParenthesis a) (λ vs b.
+    reaches_bind _ (name_again program index vs (bare program k.RightParenthesis ∷ (from_of ++ bare program k.Semicolon ∷ zs)) (λ e. cc) b) (λ ws d.
+    reaches_bind _ (reaches_expect program k.RightParenthesis d) (λ t1 a1.
+    reaches_bind _ (reaches_expect program k.Of a1) (λ t2 a2.
+    reaches_bind _ (name_again program element t2 (bare program k.Semicolon ∷ zs) (λ e. cc) a2) (λ t3 a3. reaches_pure a3)))))))
+definition_again levels (defined.Record fields end) fs zs f h =
+    let after : List Form = placed program k.End end ∷ bare program k.Record ∷ bare program k.Semicolon ∷ zs in
+    let flat = h ∙ ap (λ (us : List Form). bare program k.Record ∷ us) (append_assoc (joined (map written_field fields)) (placed program k.End end ∷ bare program k.Record ∷ []) (bare program k.Semicolon ∷ zs)) in
+    reaches_choose (peek program) (definition_by levels) (Some k.Record) (peek_front program fs h)
+    (reaches_bind _ (reaches_expect program k.Record flat) (λ us a.
+    reaches_bind _ (fields_again fields us after f (λ e. cc) a) (λ vs b.
+    reaches_bind _ (reaches_expect_place program k.End b) (λ ws d.
+    reaches_bind _ (reaches_expect program k.Record d) (λ t1 a1. reaches_pure a1)))))
 
 -- what stands after identifiers and ":"
 objects_again : (levels : ℕ) (names : List Identifier) (x : Decl) (fs ws zs : List Form) → IsIdentifiers names → fs ≡ written_identifiers program names ++ bare program k.Colon ∷ ws

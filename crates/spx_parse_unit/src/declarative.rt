@@ -11,7 +11,7 @@ ghost use Rattle.spx_cursor.specs.Answers.{Reads};
 use crate::annotations::identifiers;
 use spx_cursor::{Cursor, PROGRAM, Stop};
 use spx_parse_body::{constraint, expression, name};
-use spx_tree::{Decl, Expr, Identifier, Kind, Name, Range, TypeDef};
+use spx_tree::{Decl, Expr, FieldDecl, Identifier, Kind, Name, Range, TypeDef};
 use sqlite_items::{Boxed, Items};
 use std::alloc::Global;
 
@@ -82,7 +82,58 @@ fn enumeration(alloc: Global, cursor: &mut Cursor<'_>) -> Result<Boxed<TypeDef>,
     Ok(Boxed::new(alloc, TypeDef::Enumeration(place, literals))?)
 }
 
-// definition = integer | enumeration
+// array = "array" "(" name ")" "of" name
+#[tactic(auto, unfolding(crate::specs::Units::array))]
+fn array(alloc: Global, cursor: &mut Cursor<'_>) -> Result<Boxed<TypeDef>, Stop>
+    ensures { Reads (read.array cursor.old) result cursor.new }
+{
+    cursor.expect(PROGRAM, Kind::Array)?;
+    let place = cursor.expect_place(PROGRAM, Kind::LeftParenthesis)?;
+    let index = name(alloc, cursor, PROGRAM)?;
+    cursor.expect(PROGRAM, Kind::RightParenthesis)?;
+    cursor.expect(PROGRAM, Kind::Of)?;
+    let element = name(alloc, cursor, PROGRAM)?;
+    Ok(Boxed::new(alloc, TypeDef::Array(place, index, element))?)
+}
+
+// field = identifiers ":" name ";"
+#[tactic(auto, unfolding(crate::specs::Units::field))]
+fn field(alloc: Global, cursor: &mut Cursor<'_>) -> Result<FieldDecl, Stop>
+    ensures { Reads (read.field cursor.old) result cursor.new }
+{
+    let names = identifiers(alloc, cursor, PROGRAM)?;
+    cursor.expect(PROGRAM, Kind::Colon)?;
+    let type_name = name(alloc, cursor, PROGRAM)?;
+    cursor.expect(PROGRAM, Kind::Semicolon)?;
+    Ok(FieldDecl { names, type_name })
+}
+
+// fields = field {field}
+#[tactic(auto, using(crate::proofs::Turns::more_fields_is), unfolding(crate::specs::Units::fields))]
+fn fields(alloc: Global, cursor: &mut Cursor<'_>) -> Result<Items<FieldDecl>, Stop>
+    ensures { Reads (read.fields cursor.old) result cursor.new }
+{
+    let mut fields = Items::new(alloc);
+    fields.push(field(alloc, cursor)?)?;
+    'more: while cursor.sees(PROGRAM, Kind::Identifier) {
+        fields.push(field(alloc, cursor)?)?;
+    }
+    Ok(fields)
+}
+
+// record_definition = "record" fields "end" "record"
+#[tactic(auto, unfolding(crate::specs::Units::record_definition))]
+fn record_definition(alloc: Global, cursor: &mut Cursor<'_>) -> Result<Boxed<TypeDef>, Stop>
+    ensures { Reads (read.record_definition cursor.old) result cursor.new }
+{
+    cursor.expect(PROGRAM, Kind::Record)?;
+    let fields = fields(alloc, cursor)?;
+    let end = cursor.expect_place(PROGRAM, Kind::End)?;
+    cursor.expect(PROGRAM, Kind::Record)?;
+    Ok(Boxed::new(alloc, TypeDef::Record(fields, end))?)
+}
+
+// definition = integer | enumeration | array | record_definition
 #[tactic(auto, unfolding(crate::specs::Units::definition))]
 fn definition(alloc: Global, cursor: &mut Cursor<'_>, levels: u32) -> Result<Boxed<TypeDef>, Stop>
     ensures { Reads (read.definition levels cursor.old) result cursor.new }
@@ -90,6 +141,8 @@ fn definition(alloc: Global, cursor: &mut Cursor<'_>, levels: u32) -> Result<Box
     match cursor.peek(PROGRAM) {
         Some(Kind::Range) => integer(alloc, cursor, levels),
         Some(Kind::LeftParenthesis) => enumeration(alloc, cursor),
+        Some(Kind::Array) => array(alloc, cursor),
+        Some(Kind::Record) => record_definition(alloc, cursor),
         _ => Err(cursor.expected()),
     }
 }
