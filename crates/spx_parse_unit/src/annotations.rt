@@ -67,7 +67,12 @@ fn more_names(
 
 // names = name {"," name}
 #[tactic(auto, unfolding(crate::specs::Units::names))]
-fn names(alloc: Global, cursor: &mut Cursor<'_>, levels: u32, marked: bool) -> Result<Items<Name>, Stop>
+fn names(
+    alloc: Global,
+    cursor: &mut Cursor<'_>,
+    levels: u32,
+    marked: bool,
+) -> Result<Items<Name>, Stop>
     ensures { Reads (read.names marked levels cursor.old) result cursor.new }
 {
     let mut names = Items::new(alloc);
@@ -177,7 +182,11 @@ fn derives(alloc: Global, cursor: &mut Cursor<'_>, levels: u32) -> Result<Derive
 
 /// Reads a dependency relation, if there is one.
 #[tactic(auto, unfolding(spx_cursor::specs::Reading::if_seen))]
-pub fn optional_derives(alloc: Global, cursor: &mut Cursor<'_>, levels: u32) -> Result<Option<Derives>, Stop>
+pub fn optional_derives(
+    alloc: Global,
+    cursor: &mut Cursor<'_>,
+    levels: u32,
+) -> Result<Option<Derives>, Stop>
     ensures { Reads (reading.if_seen annotation k.Derives (read.derives levels) cursor.old) result cursor.new }
 {
     if cursor.sees(ANNOTATION, Kind::Derives) {

@@ -53,7 +53,11 @@ fn optional_constraint(
 
 // [name]
 #[tactic(auto, unfolding(spx_cursor::specs::Reading::if_seen))]
-fn optional_name(alloc: Global, cursor: &mut Cursor<'_>, levels: u32) -> Result<Option<Boxed<Name>>, Stop>
+fn optional_name(
+    alloc: Global,
+    cursor: &mut Cursor<'_>,
+    levels: u32,
+) -> Result<Option<Boxed<Name>>, Stop>
     ensures { Reads (reading.if_seen program k.Identifier (expressions.name program levels) cursor.old) result cursor.new }
 {
     if cursor.sees(PROGRAM, Kind::Identifier) {
@@ -123,7 +127,11 @@ fn fields(alloc: Global, cursor: &mut Cursor<'_>, levels: u32) -> Result<Items<F
 
 // record_definition = "record" fields "end" "record"
 #[tactic(auto, unfolding(crate::specs::Units::record_definition))]
-fn record_definition(alloc: Global, cursor: &mut Cursor<'_>, levels: u32) -> Result<Boxed<TypeDef>, Stop>
+fn record_definition(
+    alloc: Global,
+    cursor: &mut Cursor<'_>,
+    levels: u32,
+) -> Result<Boxed<TypeDef>, Stop>
     ensures { Reads (read.record_definition levels cursor.old) result cursor.new }
 {
     cursor.expect(PROGRAM, Kind::Record)?;

@@ -113,7 +113,11 @@ fn formal_part(alloc: Global, cursor: &mut Cursor<'_>, levels: u32) -> Result<Fo
 
 // [formal_part]
 #[tactic(auto, unfolding(spx_cursor::specs::Reading::if_seen))]
-fn optional_formal_part(alloc: Global, cursor: &mut Cursor<'_>, levels: u32) -> Result<Option<FormalPart>, Stop>
+fn optional_formal_part(
+    alloc: Global,
+    cursor: &mut Cursor<'_>,
+    levels: u32,
+) -> Result<Option<FormalPart>, Stop>
     ensures { Reads (reading.if_seen program k.LeftParenthesis (read.formal_part levels) cursor.old) result cursor.new }
 {
     if cursor.sees(PROGRAM, Kind::LeftParenthesis) {
