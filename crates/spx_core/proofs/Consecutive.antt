@@ -36,24 +36,27 @@ use Rattle.spx_core.specs.declared.statement.CoreStmt.{CoreStmt}
 use Rattle.spx_core.specs.declared.statement.CoreArm.{CoreArm}
 use Rattle.spx_core.specs.declared.statement.CoreAlternative.{CoreAlternative}
 use Rattle.spx_core.specs.declared.dependency.CoreDerivesItem.{CoreDerivesItem}
-use Rattle.spx_core.specs.declared.program.TypeForm.TheVariants.{Scalar}
 use Rattle.spx_core.specs.declared.program.TypeRow.{TypeRow}
 use Rattle.spx_core.specs.declared.program.Var.{Var}
 use Rattle.spx_core.specs.declared.program.Program.{Program}
 use Rattle.spx_core.specs.Formals.{stands_in}
 use Rattle.spx_core.specs.Regions.{Region, Regions}
-use Rattle.spx_core.specs.Resolved.{around_formals, around_names, bounded, constant_of, counted, Counts, declared_by, declared_by_decls, declared_by_params, declared_by_scheme, declaring, declaring_all, defining, defining_all, enumeration_type, id_at, integer_type, local_kind, meant_at, mode_of, narrowed, object_of, params_of, positions, resolved_decl, resolved_decls, resolved_formal_part, resolved_param, resolved_params, resolved_range, resolved_reference, resolved_scheme, resolved_type, rows_by, rows_by_decls, standard_types, static_value, subtype_of, var_in, var_of, variable_at, variables_by, variables_by_decls, resolved_static}
+use Rattle.spx_core.specs.Resolved.{around_formals, around_names, bounded, constant_of, counted, Counts, declared_by, declared_by_decls, declared_by_params, declared_by_scheme, declaring, declaring_all, defining, defining_all, enumeration_type, id_at, integer_type, local_kind, meant_at, mode_of, narrowed, object_of, params_of, positions, referred_subtype, resolved_decl, resolved_decls, resolved_formal_part, resolved_param, resolved_params, resolved_range, resolved_reference, resolved_scheme, resolved_type, rows_by, rows_by_decls, standard_types, static_value, var_in, var_of, variable_at, variables_by, variables_by_decls, resolved_static}
 use Rattle.spx_core.specs.declared.rule.ExprType.TheVariants.{Universal}
 use Rattle.spx_core.specs.Scopes.{object_declared, object_in}
-use Rattle.spx_core.proofs.RegionLaws.{AllHold, HasRow, Holds, HoldsIn, row_at, declaring_all_holds, hidden_holds, root_holds, predefined_have_rows, standard_holds, subtype_holds}
+use Rattle.spx_core.proofs.Positions.{InTurn, in_turn_append}
+use Rattle.spx_core.proofs.RegionLaws.{AllHold, HasRow, Holds, HoldsIn, row_at, declaring_all_holds, hidden_holds, predefined_have_rows, referred_holds, standard_holds}
 use Rattle.spx_core.proofs.Callers.ListTests.{each_append, each_split}
 use Rattle.spx_core.proofs.Callers.Variables.{same_var}
 use Rattle.spx_core.proofs.ResolvedParts.{IsStmt, null, assignment, if_then, if_else, case_of, loop, assertion, exit, IsArm, arm, IsAlternative, alternative, AreStmts, no_stmts, more_stmts, AreArms, no_arms, more_arms, AreAlternatives, no_alternatives, more_alternatives}
 
--- these declare variables of such a kind, at this position and the next ones
+-- the name declares a variable of such a kind at this position
+abbrev pub Declares : (Object → Type 0) → ℕ → Defining → Type 0
+Declares K position d = (object : Object) × K object × (d.entity ≡ variable_at position object)
+
+-- these declare such variables, at this position and the next ones
 abbrev pub Consecutive : (Object → Type 0) → ℕ → List Defining → Type 0
-Consecutive K position [] = ⊤
-Consecutive K position (d ∷ ds) = ((object : Object) × K object × (d.entity ≡ variable_at position object)) × Consecutive K (position + 1) ds
+Consecutive K position ds = InTurn (Declares K) position ds
 
 -- whether the variable is one of these
 abbrev pub is_at : VarId → ℕ → List Defining → Bool
@@ -62,9 +65,7 @@ is_at v position ds = stands_in v (positions position ds)
 -- ---- the declarations of a subprogram
 
 pub consecutive_append : (K : Object → Type 0) (position : ℕ) (a b : List Defining) → Consecutive K position a → Consecutive K (position + length a) b → Consecutive K position (a ++ b)
-consecutive_append K position [] b left right = subst (λ n. Consecutive K n b) (let e : position + 0 ≡ position = omega arith in e) right
-consecutive_append K position (d ∷ a) b left right =
-    (left.0, consecutive_append K (position + 1) a b left.1 (subst (λ n. Consecutive K n b) (let e : position + length (d ∷ a) ≡ position + 1 + length a = omega arith in e) right))
+consecutive_append K position a b left right = in_turn_append (Declares K) position a b left right
 
 pub defining_consecutive : (K : Object → Type 0) (region : Region) (object : Object) (position : ℕ) (names : List Identifier) → K object
     → Consecutive K position (defining_all region (meaning.Variables object) position names)
@@ -141,19 +142,30 @@ seam [] y ys = refl
 seam (x ∷ xs) y ys = seam xs y ys
 
 module _ (more : List TypeRow) where
-  -- the row after these stands in the table at the next position
-  row_stands : (front back : List TypeRow) (row : TypeRow) (position : ℕ) → length (standard_types ++ front) ≡ position → more ≡ front ++ row ∷ back → row_at more position ≡ Some row
-  row_stands front back row position at is =
-      ap (λ (rows : List TypeRow). slice_get (standard_types ++ rows) position) is
-      ∙ ap (slice_get (standard_types ++ (front ++ row ∷ back))) (sym at)
+  -- these rows stand in the table at this position and the next ones, between others
+  abbrev pub Stand : ℕ → (front rows back : List TypeRow) → Type 0
+  Stand position front rows back = (length (standard_types ++ front) ≡ position) × (more ≡ front ++ (rows ++ back))
+
+  pub first_stand : (position : ℕ) (front rows later back : List TypeRow) → Stand position front (rows ++ later) back → Stand position front rows (later ++ back)
+  first_stand position front rows later back stand = (stand.0, stand.1 ∙ ap (λ (xs : List TypeRow). front ++ xs) (append_assoc rows later back))
+
+  pub later_stand : (position : ℕ) (front rows later back : List TypeRow) → Stand position front (rows ++ later) back → Stand (position + length rows) (front ++ rows) later back
+  later_stand position front rows later back stand = (
+    ap length (sym (append_assoc standard_types front rows)) ∙ length-append (standard_types ++ front) rows ∙ ap (λ n. n + length rows) stand.0,
+    stand.1 ∙ ap (λ (xs : List TypeRow). front ++ xs) (append_assoc rows later back) ∙ sym (append_assoc front rows (later ++ back)),
+  )
+
+  pub row_stands : (position : ℕ) (front back : List TypeRow) (row : TypeRow) → Stand position front (row ∷ []) back → row_at more position ≡ Some row
+  row_stands position front back row stand =
+      ap (λ (rows : List TypeRow). slice_get (standard_types ++ rows) position) stand.1
+      ∙ ap (slice_get (standard_types ++ (front ++ row ∷ back))) (sym stand.0)
       ∙ ap (λ (rows : List TypeRow). slice_get rows (length (standard_types ++ front))) (sym (append_assoc standard_types front (row ∷ back)))
       ∙ seam (standard_types ++ front) row back
 
-  new_has_row : (front back : List TypeRow) (position : ℕ) (name : List ℕ) (subtype : Subtype) → length (standard_types ++ front) ≡ position → more ≡ front ++ (record { name = name; subtype = subtype; form = Scalar }) ∷ back
-      → IsNew position subtype → HasRow more subtype
-  new_has_row front back position name subtype at is (inl new) =
-      ap (λ (id : TypeId). option_map (λ (r : TypeRow). r.subtype) (row_at more id.0)) new ∙ ap (option_map (λ (r : TypeRow). r.subtype)) (row_stands front back (record { name = name; subtype = subtype; form = Scalar }) position at is)
-  new_has_row front back position name subtype at is (inr universal) = subst (HasRow more) (sym universal) refl
+  new_has_row : (position : ℕ) (front back : List TypeRow) (row : TypeRow) → Stand position front (row ∷ []) back → IsNew position row.subtype → HasRow more row.subtype
+  new_has_row position front back row stand (inl new) =
+      ap (λ (id : TypeId). option_map (λ (r : TypeRow). r.subtype) (row_at more id.0)) new ∙ ap (option_map (λ (r : TypeRow). r.subtype)) (row_stands position front back row stand)
+  new_has_row position front back row stand (inr universal) = subst (HasRow more) (sym universal) refl
 
   -- ---- what declarations declare
 
@@ -163,8 +175,8 @@ module _ (more : List TypeRow) where
     pub holds : (P : VarId → Object → Type 0) → AllHold (HasRow more) P variables → AllHold (HasRow more) P all
 
   module _ (outer : Regions) (known : AllByRecursion (HoldsIn (HasRow more) Any) outer) where
-    type_has_row : (region : Region) (names : List Identifier) (type_name : Name) → HoldsIn (HasRow more) Any region → HasRow more (subtype_of (resolved_reference (around_names outer region names) type_name).root.entity)
-    type_has_row region names type_name own = subtype_holds (HasRow more) Any (predefined_have_rows more) _ (root_holds (HasRow more) Any (around_names outer region names) (hidden_holds (HasRow more) Any names, (own, known)) type_name)
+    type_has_row : (region : Region) (names : List Identifier) (type_name : Name) → HoldsIn (HasRow more) Any region → HasRow more (referred_subtype (resolved_reference (around_names outer region names) type_name))
+    type_has_row region names type_name own = referred_holds (HasRow more) Any (around_names outer region names) (hidden_holds (HasRow more) Any names, (own, known)) (predefined_have_rows more) type_name
 
     params_consecutive : (region : Region) (position : ℕ) (params : List Param) → HoldsIn (HasRow more) Any region → Consecutive (IsFormal more) position (declared_by_params (resolved_params outer region position params))
     params_consecutive region position [] own = tt
@@ -175,45 +187,39 @@ module _ (more : List TypeRow) where
         consecutive_append (IsFormal more) position param.names _ first
         (params_consecutive (declaring_all region param.names) (position + length param.names) ps (declaring_all_holds (HasRow more) Any region param.names own (consecutive_known (HasRow more) (IsFormal more) position param.names first)))
 
-    -- the rows of a declaration follow these
-    abbrev Stands : Counts → List TypeRow → List TypeRow → List TypeRow → Type 0
-    Stands before front rows back = (length (standard_types ++ front) ≡ before.types) × (more ≡ front ++ (rows ++ back))
-
-    type_known : (region : Region) (before : Counts) (name : Identifier) (d : TypeDef) (front back : List TypeRow) → Stands before front (rows_by (resolved_type outer region before name d)) back
+    type_known : (region : Region) (before : Counts) (name : Identifier) (d : TypeDef) (front back : List TypeRow) → Stand before.types front (rows_by (resolved_type outer region before name d)) back
         → Known before.vars (variables_by (resolved_type outer region before name d)) (declared_by (resolved_type outer region before name d))
-    type_known region before name (definition.Integer range) front back stands =
+    type_known region before name (definition.Integer range) front back stand =
         let r = resolved_range Universal (around_names outer region (name ∷ [])) range in
-        record { consecutive = tt; holds = λ P h. (new_has_row front back before.types name.text _ stands.0 stands.1 (integer_is_new before.types (static_value r.low) (static_value r.high)), tt) }
-    type_known region before name (definition.Enumeration place literals) front back stands =
-        record { consecutive = tt; holds = λ P h. (new_has_row front back before.types name.text _ stands.0 stands.1 (inl refl), meanings_hold (HasRow more) P _ (meaning.Literals (enumeration_type before.types (length literals))) 0 literals (λ k. tt)) }
+        record { consecutive = tt; holds = λ P h. (new_has_row before.types front back _ stand (integer_is_new before.types (static_value r.low) (static_value r.high)), tt) }
+    type_known region before name (definition.Enumeration place literals) front back stand =
+        record { consecutive = tt; holds = λ P h. (new_has_row before.types front back _ stand (inl refl), meanings_hold (HasRow more) P _ (meaning.Literals (enumeration_type before.types (length literals))) 0 literals (λ k. tt)) }
+    type_known region before name (definition.Array place index element) front back stand = record { consecutive = tt; holds = λ P h. (new_has_row before.types front back _ stand (inl refl), tt) }
+    type_known region before name (definition.Record fields end) front back stand = record { consecutive = tt; holds = λ P h. (new_has_row before.types front back _ stand (inl refl), tt) }
 
-    decl_known : (region : Region) (before : Counts) (d : Decl) (front back : List TypeRow) → HoldsIn (HasRow more) Any region → Stands before front (rows_by (resolved_decl outer region before d)) back
+    decl_known : (region : Region) (before : Counts) (d : Decl) (front back : List TypeRow) → HoldsIn (HasRow more) Any region → Stand before.types front (rows_by (resolved_decl outer region before d)) back
         → Known before.vars (variables_by (resolved_decl outer region before d)) (declared_by (resolved_decl outer region before d))
-    decl_known region before (decl.Variables names type_name value) front back own stands =
+    decl_known region before (decl.Variables names type_name value) front back own stand =
         let around = around_names outer region names in
         let kind = local_kind (option_map (resolved_static around) value) in
         record { consecutive = defining_consecutive (IsLocal more) region (object_of kind (resolved_reference around type_name)) before.vars names (kind_is_local (option_map (resolved_static around) value), type_has_row region names type_name own); holds = λ P h. h }
-    decl_known region before (decl.Constants names type_name value) front back own stands =
+    decl_known region before (decl.Constants names type_name value) front back own stand =
         record { consecutive = tt; holds = λ P h. meanings_hold (HasRow more) P region _ 0 names (λ k. constants_hold (HasRow more) P (option_map (resolved_reference (around_names outer region names)) type_name) (static_value (resolved_static (around_names outer region names) value))) }
-    decl_known region before (decl.FullType name d) front back own stands = type_known region before name d front back stands
-    decl_known region before (decl.Subtype name parent range) front back own stands =
+    decl_known region before (decl.FullType name d) front back own stand = type_known region before name d front back stand
+    decl_known region before (decl.Subtype name parent range) front back own stand =
         let around = around_names outer region (name ∷ []) in
-        record { consecutive = tt; holds = λ P h. (new_has_row front back before.types name.text _ stands.0 stands.1 (narrowed_is_new before.types (subtype_of (resolved_reference around parent).root.entity) (option_map (resolved_range Universal around) range)), tt) }
+        record { consecutive = tt; holds = λ P h. (new_has_row before.types front back _ stand (narrowed_is_new before.types (referred_subtype (resolved_reference around parent)) (option_map (resolved_range Universal around) range)), tt) }
 
-    pub decls_known : (region : Region) (before : Counts) (ds : List Decl) (front back : List TypeRow) → HoldsIn (HasRow more) Any region → Stands before front (rows_by_decls (resolved_decls outer region before ds)) back
+    pub decls_known : (region : Region) (before : Counts) (ds : List Decl) (front back : List TypeRow) → HoldsIn (HasRow more) Any region → Stand before.types front (rows_by_decls (resolved_decls outer region before ds)) back
         → Known before.vars (variables_by_decls (resolved_decls outer region before ds)) (declared_by_decls (resolved_decls outer region before ds))
-    decls_known region before [] front back own stands = record { consecutive = tt; holds = λ P h. h }
-    decls_known region before (d ∷ ds) front back own stands =
+    decls_known region before [] front back own stand = record { consecutive = tt; holds = λ P h. h }
+    decls_known region before (d ∷ ds) front back own stand =
         let one = resolved_decl outer region before d in
         let next = declaring_all region (declared_by one) in
         let later = resolved_decls outer next (counted before one) ds in
-        let first = decl_known region before d front (rows_by_decls later ++ back) own (stands.0, stands.1 ∙ ap (λ (rows : List TypeRow). front ++ rows) (append_assoc (rows_by one) (rows_by_decls later) back)) in
+        let first = decl_known region before d front (rows_by_decls later ++ back) own (first_stand before.types front (rows_by one) (rows_by_decls later) back stand) in
         let along = declaring_all_holds (HasRow more) Any region (declared_by one) own (first.holds Any (consecutive_known (HasRow more) (IsLocal more) before.vars (variables_by one) first.consecutive)) in
-        let count = length-append standard_types front in
-        let rest = decls_known next (counted before one) ds (front ++ rows_by one) back along (
-          ap length (sym (append_assoc standard_types front (rows_by one))) ∙ length-append (standard_types ++ front) (rows_by one) ∙ ap (λ n. n + length (rows_by one)) stands.0,
-          stands.1 ∙ ap (λ (rows : List TypeRow). front ++ rows) (append_assoc (rows_by one) (rows_by_decls later) back) ∙ sym (append_assoc front (rows_by one) (rows_by_decls later ++ back)),
-        ) in
+        let rest = decls_known next (counted before one) ds (front ++ rows_by one) back along (later_stand before.types front (rows_by one) (rows_by_decls later) back stand) in
         record {
           consecutive = consecutive_append (IsLocal more) before.vars (variables_by one) (variables_by_decls later) first.consecutive rest.consecutive;
           holds = λ P h. let parts = each_split (λ (x : Defining). Holds (HasRow more) P (Some x.entity)) (variables_by one) (variables_by_decls later) h in each_append (λ (x : Defining). Holds (HasRow more) P (Some x.entity)) (declared_by one) (declared_by_decls later) (first.holds P parts.0) (rest.holds P parts.1);

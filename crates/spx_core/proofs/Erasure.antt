@@ -8,6 +8,7 @@ use Rattle.spx_tree.specs.declared.expression.Expr.{Expr, Expr-F, roll-Expr, map
 use Rattle.spx_tree.specs.declared.expression.Expr.TheVariants as expr
 use Rattle.spx_tree.specs.declared.declaration.Decl.{Decl}
 use Rattle.spx_tree.specs.declared.declaration.Decl.TheVariants as decl
+use Rattle.spx_tree.specs.declared.declaration.FieldDecl.{FieldDecl}
 use Rattle.spx_tree.specs.declared.declaration.Range.{Range}
 use Rattle.spx_tree.specs.declared.declaration.TypeDef.{TypeDef}
 use Rattle.spx_tree.specs.declared.declaration.TypeDef.TheVariants as definition
@@ -38,7 +39,7 @@ use Rattle.spx_core.specs.declared.name.Defining.{Defining}
 use Rattle.spx_core.specs.declared.dependency.CoreDerivesItem.{CoreDerivesItem}
 use Rattle.spx_core.specs.declared.program.Program.{Program}
 use Rattle.spx_core.specs.Regions.{Region, Regions, hidden}
-use Rattle.spx_core.specs.Erased.{Visible, erased, erased_alternative, erased_alternative_step, erased_arm, erased_arm_step, erased_choice, erased_count, erased_decl, erased_range, erased_defining, erased_derives, erased_exports, erased_expr, erased_formal_part, erased_item, erased_param, erased_predicate, erased_reference, erased_scheme, erased_step, erased_stmt, erased_stmt_step, erased_sub, unit_of}
+use Rattle.spx_core.specs.Erased.{Visible, erased, erased_alternative, erased_alternative_step, erased_arm, erased_arm_step, erased_choice, erased_count, erased_decl, erased_range, erased_defining, erased_derives, erased_exports, erased_expr, erased_field, erased_formal_part, erased_item, erased_param, erased_predicate, erased_reference, erased_scheme, erased_step, erased_stmt, erased_stmt_step, erased_sub, unit_of}
 use Rattle.spx_core.specs.declared.rule.ExprType.{ExprType}
 use Rattle.spx_core.specs.declared.rule.ExprType.TheVariants.{Universal, Of}
 use Rattle.spx_core.specs.declared.entity.TheConstants.{INTEGER}
@@ -48,7 +49,7 @@ use Rattle.spx_core.proofs.Callers.Bodies.{all_are_units}
 use Rattle.spx_core.proofs.Judgements.{unbroken}
 use Rattle.spx_core.proofs.ResolvedParts.{IsStmt, null, assignment, if_then, if_else, case_of, loop, assertion, exit, IsArm, arm, IsAlternative, alternative, AreStmts, no_stmts, more_stmts, AreArms, no_arms, more_arms, AreAlternatives, no_alternatives, more_alternatives, stmts_are}
 use Rattle.spx_core.specs.Resolved as resolved
-use Rattle.spx_core.specs.Resolved.{after_formals, around_body, around_formals, around_names, at_start, counted, counted_sub, Counts, declared_by, declaring, declaring_all, defining, defining_all, exported_names, formal_names, is_changed_by, items_for, meant_at, place_of_null, resolved_choice, resolved_decl, resolved_decls, resolved_derives, resolved_expr, resolved_formal_part, resolved_function, resolved_in, resolved_item, resolved_name, resolved_param, resolved_params, resolved_predicate, resolved_range, resolved_reference, resolved_scheme, resolved_sub, resolved_subs, resolved_target, resolved_type, unit_name, own_region, declared_before, resolved_count, resolved_condition, resolved_static, type_named}
+use Rattle.spx_core.specs.Resolved.{after_formals, around_body, around_formals, around_names, at_start, counted, counted_sub, Counts, declared_by, declaring, declaring_all, defining, defining_all, exported_names, formal_names, is_changed_by, items_for, meant_at, place_of_null, resolved_choice, resolved_decl, resolved_decls, resolved_derives, resolved_expr, resolved_field, resolved_fields, resolved_formal_part, resolved_function, resolved_in, resolved_item, resolved_name, resolved_param, resolved_params, resolved_predicate, resolved_range, resolved_reference, resolved_scheme, resolved_sub, resolved_subs, resolved_target, resolved_type, unit_name, own_region, declared_before, resolved_count, resolved_condition, resolved_static, type_named}
 use Rattle.spx_core.proofs.ContextLaws.{erased_in_context}
 
 -- ---- names and expressions
@@ -206,6 +207,15 @@ module _ (items : List CoreDerivesItem) (outer : Regions) where
 -- ---- declarations
 
 module _ (outer : Regions) where
+  kept_field : (region : Region) (field : FieldDecl) → erased_field (resolved_field outer region field) ≡ field
+  kept_field region field =
+      ap₂ (λ (names : List Identifier) (type_name : Name). let x : FieldDecl = record { names = names; type_name = type_name } in x) (kept_names region _ 0 field.names) (kept_reference (around_names outer region field.names) field.type_name)
+
+  kept_fields : (region : Region) (fields : List FieldDecl) → map erased_field (resolved_fields outer region fields) ≡ fields
+  kept_fields region [] = refl
+  kept_fields region (f ∷ fs) = ap₂ (λ (x : FieldDecl) (xs : List FieldDecl). x ∷ xs) (kept_field region f) (kept_fields (declaring_all region (resolved_field outer region f).names) fs)
+
+module _ (outer : Regions) where
   kept_param : (region : Region) (position : ℕ) (param : Param) → erased_param (resolved_param outer region position param) ≡ param
   kept_param region position param =
       ap₂ (λ (names : List Identifier) (type_name : Name). let x : Param = record { names = names; mode = param.mode; type_name = type_name } in x)
@@ -218,6 +228,10 @@ module _ (outer : Regions) where
   kept_type : (region : Region) (before : Counts) (name : Identifier) (d : TypeDef) → erased_decl (resolved_type outer region before name d) ≡ decl.FullType name d
   kept_type region before name (definition.Integer range) = ap (λ (r : Range). decl.FullType name (definition.Integer r)) (kept_range Universal (around_names outer region (name ∷ [])) range)
   kept_type region before name (definition.Enumeration place literals) = ap (λ (names : List Identifier). decl.FullType name (definition.Enumeration place names)) (kept_names _ _ 0 literals)
+  kept_type region before name (definition.Array place index element) =
+      let around = around_names outer region (name ∷ []) in
+      ap₂ (λ (i e : Name). decl.FullType name (definition.Array place i e)) (kept_reference around index) (kept_reference around element)
+  kept_type region before name (definition.Record fields end) = ap (λ (fs : List FieldDecl). decl.FullType name (definition.Record fs end)) (kept_fields (around_names outer region (name ∷ [])) [] fields)
 
   kept_decl : (region : Region) (before : Counts) (d : Decl) → erased_decl (resolved_decl outer region before d) ≡ d
   kept_decl region before (decl.Variables names type_name value) =

@@ -60,6 +60,7 @@ object_found name (Some (entity.Constant subtype n)) b is h = told (BreaksName I
 object_found name (Some (entity.NamedNumber n)) b is h = told (BreaksName IsObject name) N3 name.name.place b h (broken.of_another_kind (entity.NamedNumber n) is (λ o. let e = o.2 in cc))
 object_found name (Some (entity.Literal subtype position)) b is h = told (BreaksName IsObject name) N3 name.name.place b h (broken.of_another_kind (entity.Literal subtype position) is (λ o. let e = o.2 in cc))
 object_found name (Some (entity.Subprogram s)) b is h = told (BreaksName IsObject name) N3 name.name.place b h (broken.of_another_kind (entity.Subprogram s) is (λ o. let e = o.2 in cc))
+object_found name (Some (entity.Field subtype)) b is h = told (BreaksName IsObject name) N3 name.name.place b h (broken.of_another_kind (entity.Field subtype) is (λ o. let e = o.2 in cc))
 
 -- what stands for a value of a type with parts
 standing_found : (Breaks : RuleName → Place → Type 0) (place : Place) (subtype : Subtype) (n : ℤ) (b : Breach) → standing_at place subtype n ≡ Err b → (has_parts subtype.base.class ≡ true → Breaks N10 place) → At Breaks b
@@ -79,6 +80,9 @@ value_found name (Some (entity.TypeName subtype)) b is h =
 value_found name (Some (entity.Subprogram s)) b is h =
     broken.name name b.rule b.place
     (told (BreaksName IsValue name) N3 name.name.place b h (broken.of_another_kind (entity.Subprogram s) is (⊎_elim (λ o. let e = o.2 in cc) (⊎_elim (⊎_elim (λ c. let e = c.2 in cc) (λ n. let e = n.1 in cc)) (λ l. let e = l.2 in cc)))))
+value_found name (Some (entity.Field subtype)) b is h =
+    broken.name name b.rule b.place
+    (told (BreaksName IsValue name) N3 name.name.place b h (broken.of_another_kind (entity.Field subtype) is (⊎_elim (λ o. let e = o.2 in cc) (⊎_elim (⊎_elim (λ c. let e = c.2 in cc) (λ n. let e = n.1 in cc)) (λ l. let e = l.2 in cc)))))
 
 type_found : (name : CoreName) (e : Option Entity) (b : Breach) → name.entity ≡ e → type_at name.name.place e ≡ Err b → At (BreaksName IsType name) b
 type_found name None b is h = told (BreaksName IsType name) N1 name.name.place b h (broken.undeclared is)
@@ -88,6 +92,7 @@ type_found name (Some (entity.Constant subtype n)) b is h = told (BreaksName IsT
 type_found name (Some (entity.NamedNumber n)) b is h = told (BreaksName IsType name) N3 name.name.place b h (broken.of_another_kind (entity.NamedNumber n) is (λ o. let e = o.1 in cc))
 type_found name (Some (entity.Literal subtype position)) b is h = told (BreaksName IsType name) N3 name.name.place b h (broken.of_another_kind (entity.Literal subtype position) is (λ o. let e = o.1 in cc))
 type_found name (Some (entity.Subprogram s)) b is h = told (BreaksName IsType name) N3 name.name.place b h (broken.of_another_kind (entity.Subprogram s) is (λ o. let e = o.1 in cc))
+type_found name (Some (entity.Field subtype)) b is h = told (BreaksName IsType name) N3 name.name.place b h (broken.of_another_kind (entity.Field subtype) is (λ o. let e = o.1 in cc))
 
 pub target_found : (name : CoreName) (e : Option Entity) (b : Breach) → name.entity ≡ e → target_at name.name.place e ≡ Err b → At (BreaksName IsTarget name) b
 target_found name None b is h = told (BreaksName IsTarget name) N1 name.name.place b h (broken.undeclared is)
@@ -97,6 +102,7 @@ target_found name (Some (entity.NamedNumber n)) b is h = absurd cc
 target_found name (Some (entity.TypeName subtype)) b is h = told (BreaksName IsTarget name) N3 name.name.place b h (broken.of_another_kind (entity.TypeName subtype) is (λ o. let e = o.1 in cc))
 target_found name (Some (entity.Literal subtype position)) b is h = told (BreaksName IsTarget name) N3 name.name.place b h (broken.of_another_kind (entity.Literal subtype position) is (λ o. let e = o.1 in cc))
 target_found name (Some (entity.Subprogram s)) b is h = told (BreaksName IsTarget name) N3 name.name.place b h (broken.of_another_kind (entity.Subprogram s) is (λ o. let e = o.1 in cc))
+target_found name (Some (entity.Field subtype)) b is h = told (BreaksName IsTarget name) N3 name.name.place b h (broken.of_another_kind (entity.Field subtype) is (λ o. let e = o.1 in cc))
 
 pub target_is : (place : Place) (e : Option Entity) (subtype : Subtype) → target_at place e ≡ Ok subtype → (x : Entity) × (e ≡ Some x) × (assigned_type x ≡ Some subtype)
 target_is place None subtype h = absurd cc
@@ -106,6 +112,7 @@ target_is place (Some (entity.NamedNumber n)) subtype h = (entity.NamedNumber n,
 target_is place (Some (entity.TypeName s)) subtype h = absurd cc
 target_is place (Some (entity.Literal s position)) subtype h = absurd cc
 target_is place (Some (entity.Subprogram s)) subtype h = absurd cc
+target_is place (Some (entity.Field s)) subtype h = absurd cc
 
 object_is : (place : Place) (e : Option Entity) (object : Object) → object_at place e ≡ Ok object → (v : VarId) × (e ≡ Some (entity.Variable v object))
 object_is place None object h = absurd cc
@@ -115,6 +122,7 @@ object_is place (Some (entity.Constant subtype n)) object h = absurd cc
 object_is place (Some (entity.NamedNumber n)) object h = absurd cc
 object_is place (Some (entity.Literal subtype position)) object h = absurd cc
 object_is place (Some (entity.Subprogram s)) object h = absurd cc
+object_is place (Some (entity.Field subtype)) object h = absurd cc
 
 type_is : (place : Place) (e : Option Entity) (subtype : Subtype) → type_at place e ≡ Ok subtype → e ≡ Some (entity.TypeName subtype)
 type_is place None subtype h = absurd cc
@@ -124,6 +132,7 @@ type_is place (Some (entity.Constant s n)) subtype h = absurd cc
 type_is place (Some (entity.NamedNumber n)) subtype h = absurd cc
 type_is place (Some (entity.Literal s position)) subtype h = absurd cc
 type_is place (Some (entity.Subprogram s)) subtype h = absurd cc
+type_is place (Some (entity.Field s)) subtype h = absurd cc
 
 value_is : (place : Place) (e : Option Entity) (t : Typing) → value_at place e ≡ Ok t → (entity : Entity) × (e ≡ Some entity) × IsValue entity
 value_is place None t h = absurd cc
@@ -133,6 +142,7 @@ value_is place (Some (entity.NamedNumber n)) t h = (entity.NamedNumber n, refl, 
 value_is place (Some (entity.Literal subtype position)) t h = (entity.Literal subtype position, refl, inr (inr (subtype, position, refl)))
 value_is place (Some (entity.TypeName s)) t h = absurd cc
 value_is place (Some (entity.Subprogram s)) t h = absurd cc
+value_is place (Some (entity.Field subtype)) t h = absurd cc
 
 -- what stands for a value has no parts
 standing_is : (place : Place) (subtype : Subtype) (n : ℤ) (t : Typing) → standing_at place subtype n ≡ Ok t → has_parts subtype.base.class ≡ false
@@ -206,13 +216,20 @@ referred_is reference subtype h = type_is reference.root.name.place reference.ro
 pub same_type_named : (reference : Reference) (s subtype : Subtype) → referred_type reference ≡ Ok s → reference.root.entity ≡ Some (entity.TypeName subtype) → s ≡ subtype
 same_type_named reference s subtype h is = ok_is (sym (reference_is IsType (named_type reference.root) reference s h).0 ∙ ap (type_at reference.root.name.place) is)
 
-integer_is : (reference : Reference) (subtype : Subtype) → ordered_type reference ≡ Ok subtype → (reference.root.entity ≡ Some (entity.TypeName subtype)) × (referred_type reference ≡ Ok subtype) × (has_numbers subtype.base.class ≡ true)
-integer_is reference subtype h =
+-- a type that has an order
+pub ordered_is : (reference : Reference) (subtype : Subtype) → ordered_type reference ≡ Ok subtype → (reference.root.entity ≡ Some (entity.TypeName subtype)) × (referred_type reference ≡ Ok subtype) × (has_numbers subtype.base.class ≡ true)
+ordered_is reference subtype h =
     let s = bound (referred_type reference) _ subtype h in
     let n = bound (keeps N10 reference.root.name.place (has_numbers s.0.base.class)) _ subtype s.2 in
     let same : s.0 ≡ subtype = ok_is n.2 in
     let referred = s.1 ∙ n.2 in
     (referred_is reference subtype referred, referred, subst (λ (s : Subtype). has_numbers s.base.class ≡ true) same (kept N10 reference.root.name.place _ n.1))
+
+pub ordered_found : (Breaks : RuleName → Place → Type 0) (reference : Reference) (b : Breach) → ((rule : RuleName) (place : Place) → BreaksReference IsType reference rule place → Breaks rule place)
+    → ((subtype : Subtype) → reference.root.entity ≡ Some (entity.TypeName subtype) → has_numbers subtype.base.class ≡ false → Breaks N10 reference.root.name.place) → ordered_type reference ≡ Err b → At Breaks b
+ordered_found Breaks reference b of_type without h =
+    by_part (referred_type reference) _ b h (λ e. of_type b.rule b.place (type_reference_found reference b e)) (λ subtype is h.
+    by_part (keeps N10 reference.root.name.place (has_numbers subtype.base.class)) _ b h (λ e. by_test Breaks N10 reference.root.name.place _ b e (without subtype (referred_is reference subtype is))) (λ _ _ h. absurd cc))
 
 -- ---- expressions
 
@@ -310,16 +327,10 @@ operation_found op at a c l r d f b h =
 member_of_type_found : (op : MemberOp) (at : Place) (a : CoreExpr) (name : Reference) (o : Typing) → HasType a o → (b : Breach) → (ordered_type name >>= λ s. member_of_type op at o s) ≡ Err b → At (BreaksExpr (expr.InType op at a name)) b
 member_of_type_found op at a name o d b h =
     let Breaks = BreaksExpr (expr.InType op at a name) in
-    by_part (ordered_type name) _ b h (λ e. type_at_fault e) (λ subtype is h.
-    let named = (integer_is name subtype is).0 in
+    by_part (ordered_type name) _ b h (ordered_found Breaks name b (broken.of_type op at a name) (broken.no_integer_type op at a name)) (λ subtype is h.
+    let named = (ordered_is name subtype is).0 in
     by_part (keeps N10 at (is_of subtype.base o.of)) _ b h (λ e. by_test Breaks N10 at (is_of subtype.base o.of) b e (broken.tested_of_another_type op at a name subtype o named d)) (λ _ _ h.
     by_part (keeps N12 o.place (lies_in (Of subtype.base) o.value)) _ b h (λ e. by_test Breaks N12 o.place (lies_in (Of subtype.base) o.value) b e (broken.tested_out_of_type op at a name subtype o named d)) (λ _ _ h. absurd cc)))
-  where
-    type_at_fault : ordered_type name ≡ Err b → At (BreaksExpr (expr.InType op at a name)) b
-    type_at_fault e =
-        by_part (referred_type name) _ b e (λ e. broken.of_type op at a name b.rule b.place (type_reference_found name b e)) (λ subtype is e.
-        by_part (keeps N10 name.root.name.place (has_numbers subtype.base.class)) _ b e
-        (λ e. by_test (BreaksExpr (expr.InType op at a name)) N10 name.root.name.place _ b e (broken.no_integer_type op at a name subtype (referred_is name subtype is))) (λ _ _ e. absurd cc))
 
 member_of_range_found : (op : MemberOp) (at : Place) (a low high : CoreExpr) (o l u : Typing) → HasType a o → HasType low l → HasType high u → (b : Breach) → member_of_range op at o l u ≡ Err b → At (BreaksExpr (expr.InRange op at a low high)) b
 member_of_range_found op at a low high o l u d c f b h =
@@ -508,7 +519,7 @@ record PassesType (name : Reference) (subtype : Subtype) (o : Typing) : Type 0 w
 member_of_type_passes : (op : MemberOp) (at : Place) (name : Reference) (o t : Typing) → (ordered_type name >>= λ s. member_of_type op at o s) ≡ Ok t → (subtype : Subtype) × PassesType name subtype o
 member_of_type_passes op at name o t h =
     let s = bound (ordered_type name) _ t h in
-    let is = integer_is name s.0 s.1 in
+    let is = ordered_is name s.0 s.1 in
     let a = bound (keeps N10 at (is_of s.0.base o.of)) _ t s.2 in
     let b = bound (keeps N12 o.place (lies_in (Of s.0.base) o.value)) _ t a.2 in
     (s.0, record { referred = is.1; has_its_numbers = is.2; same_type = kept N10 at _ a.1; type_lies = kept N12 o.place _ b.1 })

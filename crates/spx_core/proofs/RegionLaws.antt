@@ -21,7 +21,7 @@ use Rattle.spx_core.specs.declared.program.TypeRow.{TypeRow}
 use Rattle.spx_core.specs.Uses.{denotes, is_same, mentions, uses, variable_of}
 use Rattle.spx_core.specs.Reads.{names_read, names_step}
 use Rattle.spx_core.specs.Regions.{Declaration, Region, Regions, declared_in, denoted, hidden, standard}
-use Rattle.spx_core.specs.Resolved.{around_body, declaring, declaring_all, expr_step, is_changed_by, resolved_function, resolved_in, resolved_name, resolved_reference, standard_types, subtype_of}
+use Rattle.spx_core.specs.Resolved.{around_body, declaring, declaring_all, expr_step, is_changed_by, referred_subtype, resolved_function, resolved_in, resolved_name, resolved_reference, standard_types, subtype_of}
 use Rattle.spx_core.proofs.Callers.Expressions.{fold-Number, fold-Name, fold-Entry, fold-Attribute, fold-Applied, fold-Parenthesized, fold-Prefix, fold-Infix, fold-InType, fold-InRange}
 use Rattle.spx_core.proofs.Callers.ListTests.{each_append, some_mapped}
 use Rattle.spx_core.proofs.Callers.Variables.{same_var}
@@ -44,6 +44,17 @@ Holds T P (Some (entity.Variable v object)) = P v object
 Holds T P (Some (entity.TypeName subtype)) = T subtype
 Holds T P other = ⊤
 
+-- where each such subtype is one of another kind
+holds_weaker : (T U : Subtype → Type 0) (P : VarId → Object → Type 0) → ((subtype : Subtype) → T subtype → U subtype) → (o : Option Entity) → Holds T P o → Holds U P o
+holds_weaker T U P weaker (Some (entity.TypeName subtype)) h = weaker subtype h
+holds_weaker T U P weaker (Some (entity.Variable v object)) h = h
+holds_weaker T U P weaker (Some (entity.Constant subtype n)) h = h
+holds_weaker T U P weaker (Some (entity.NamedNumber n)) h = h
+holds_weaker T U P weaker (Some (entity.Literal subtype position)) h = h
+holds_weaker T U P weaker (Some (entity.Subprogram sub)) h = h
+holds_weaker T U P weaker (Some (entity.Field subtype)) h = h
+holds_weaker T U P weaker None h = h
+
 -- the predefined types are such subtypes
 abbrev pub OfPredefined : (Subtype → Type 0) → Type 0
 OfPredefined T = AllByRecursion (λ (row : TypeRow). T row.subtype) standard_types
@@ -59,6 +70,7 @@ subtype_holds T P predefined (Some (entity.Constant subtype n)) h = predefined.0
 subtype_holds T P predefined (Some (entity.NamedNumber n)) h = predefined.0
 subtype_holds T P predefined (Some (entity.Literal subtype position)) h = predefined.0
 subtype_holds T P predefined (Some (entity.Subprogram sub)) h = predefined.0
+subtype_holds T P predefined (Some (entity.Field subtype)) h = predefined.0
 subtype_holds T P predefined None h = predefined.0
 
 module _ (T : Subtype → Type 0) (P : VarId → Object → Type 0) where
@@ -69,6 +81,10 @@ module _ (T : Subtype → Type 0) (P : VarId → Object → Type 0) where
   HoldsIn region = AllByRecursion (λ (d : Declaration). Holds T P d.entity) region
 
   -- ---- regions
+
+  pub weaker_in : (U : Subtype → Type 0) → ((subtype : Subtype) → T subtype → U subtype) → (region : Region) → HoldsIn region → AllByRecursion (λ (d : Declaration). Holds U P d.entity) region
+  weaker_in U weaker [] all = tt
+  weaker_in U weaker (d ∷ ds) all = (holds_weaker T U P weaker d.entity all.0, weaker_in U weaker ds all.1)
 
   found_holds : (region : Region) (word : List ℕ) (outer : Option Entity) → HoldsIn region → Holds T P outer → Holds T P (unwrap_or (declared_in region word) outer)
   found_holds [] word outer all h = h
@@ -114,6 +130,7 @@ module _ (T : Subtype → Type 0) (P : VarId → Object → Type 0) where
   denoted_variable v (Some (entity.NamedNumber n)) h is = absurd cc
   denoted_variable v (Some (entity.Literal subtype position)) h is = absurd cc
   denoted_variable v (Some (entity.Subprogram sub)) h is = absurd cc
+  denoted_variable v (Some (entity.Field subtype)) h is = absurd cc
   denoted_variable v None h is = absurd cc
 
   module _ (regions : Regions) (all : AllByRecursion HoldsIn regions) where
@@ -131,6 +148,10 @@ module _ (T : Subtype → Type 0) (P : VarId → Object → Type 0) where
     pub root_holds : (name : Name) → Holds T P (resolved_reference regions name).root.entity
     root_holds (Simple name) = denoted_holds regions name.text all
     root_holds (Attribute prefix designator) = denoted_holds regions prefix.text all
+
+    -- the type that it names, or that counts as named
+    pub referred_holds : OfPredefined T → (name : Name) → T (referred_subtype (resolved_reference regions name))
+    referred_holds predefined name = subtype_holds T P predefined (resolved_reference regions name).root.entity (root_holds name)
 
     -- ---- the names that an expression reads
 

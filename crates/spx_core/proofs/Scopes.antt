@@ -58,6 +58,7 @@ use Rattle.spx_core.specs.Regions.{Region, Regions}
 use Rattle.spx_core.specs.Resolved.{after_formals, around_body, at_start, counted_sub, Counts, declaring, declaring_all, exported_names, formal_names, items_for, local_names, local_variables, own_types, own_vars, resolved_derives, resolved_expr, resolved_in, resolved_item, resolved_predicate, resolved_reference, resolved_sub, resolved_subs, resolved_target, standard_types, unit_name, var_of, around_names, declared_by_count, loop_names, object_of, positions, resolved_choice, resolved_count, resolved_range, resolved_condition, type_named}
 use Rattle.spx_core.proofs.ContextLaws.{reads_in_context}
 use Rattle.spx_core.proofs.Partless.{no_parts_in_context}
+use Rattle.spx_core.proofs.Positions.{AllFrom, each_from}
 use Rattle.spx_core.specs.Contexts.{in_context}
 use Rattle.spx_core.specs.declared.rule.ExprType.{ExprType}
 use Rattle.spx_core.specs.declared.rule.ExprType.TheVariants.{Of}
@@ -495,6 +496,10 @@ inner_if_local LoopParameter h = tt
 
 -- ---- subprograms
 
+-- how many types it declares
+abbrev pub type_count : Sub → ℕ
+type_count sub = length (own_types sub)
+
 module _ (p : Program) (more : List TypeRow) (types : p.types ≡ standard_types ++ more) where
   -- the unit at this position, whose variables and types stand between these rows
   module _ (library : Region) (position : ℕ) (start : Counts) (s : Subprogram) (before after : List Var) (len : length before ≡ start.vars) where
@@ -694,15 +699,16 @@ module _ (p : Program) (more : List TypeRow) (types : p.types ≡ standard_types
 
   -- ---- programs
 
-  -- it holds of each unit, whose variables and types stand between some rows
-  abbrev pub OfEach : (Sub → Type 0) → Type 0
+  -- it holds of each unit, whose variables and types stand between some rows, with the position of its first type
+  abbrev pub OfEach : (ℕ → Sub → Type 0) → Type 0
   OfEach Q =
       (library : Region) (position : ℕ) (counts : Counts) (s : Subprogram) (before after : List Var) → length before ≡ counts.vars → p.vars ≡ before ++ (own_vars (resolved_sub (unit_name library position s) counts s) ++ after)
-      → (front back : List TypeRow) → length (standard_types ++ front) ≡ counts.types → more ≡ front ++ (own_types (resolved_sub (unit_name library position s) counts s) ++ back) → Q (resolved_sub (unit_name library position s) counts s)
+      → (front back : List TypeRow) → length (standard_types ++ front) ≡ counts.types → more ≡ front ++ (own_types (resolved_sub (unit_name library position s) counts s) ++ back)
+      → Q counts.types (resolved_sub (unit_name library position s) counts s)
 
-  each_sub : (Q : Sub → Type 0) → OfEach Q → (library : Region) (position : ℕ) (counts : Counts) (before : List Var) (front : List TypeRow) (units : List Unit) → length before ≡ counts.vars → length (standard_types ++ front) ≡ counts.types
+  each_sub : (Q : ℕ → Sub → Type 0) → OfEach Q → (library : Region) (position : ℕ) (counts : Counts) (before : List Var) (front : List TypeRow) (units : List Unit) → length before ≡ counts.vars → length (standard_types ++ front) ≡ counts.types
       → p.vars ≡ before ++ flat_map own_vars (resolved_subs library position counts units) → more ≡ front ++ flat_map own_types (resolved_subs library position counts units)
-      → AllByRecursion Q (resolved_subs library position counts units)
+      → AllFrom type_count Q counts.types (resolved_subs library position counts units)
   each_sub Q of_each library position counts before front [] len count vars rows_are = tt
   each_sub Q of_each library position counts before front (unit.Subprogram s ∷ units) len count vars rows_are =
       let one = resolved_sub (unit_name library position s) counts s in
@@ -718,12 +724,16 @@ module _ (p : Program) (more : List TypeRow) (types : p.types ≡ standard_types
             (rows_are ∙ sym (append_assoc front (own_types one) back)),
       )
 
--- what holds of each unit holds of all subprograms of a program
-pub each_of_program : (Q : Program → Sub → Type 0) → ((p : Program) (more : List TypeRow) (types : p.types ≡ standard_types ++ more) → OfEach p more types (Q p)) → (p : Program) → Visible p → All (Q p) p.subs
-each_of_program Q of_each p is =
+-- what holds of each unit, and of the position of its types, holds of all subprograms of a program
+pub each_in_order : (Q : Program → ℕ → Sub → Type 0) → ((p : Program) (more : List TypeRow) (types : p.types ≡ standard_types ++ more) → OfEach p more types (Q p)) → (p : Program) → Visible p → AllFrom type_count (Q p) (length standard_types) p.subs
+each_in_order Q of_each p is =
     let q = resolved.resolved (erased p) in
     let more = flat_map own_types q.subs in
-    subst (λ q. All (Q q) q.subs) (sym is) (All-from_recursion (Q q) q.subs (each_sub q more refl (Q q) (of_each q more refl) [] 0 at_start [] [] (erased p) refl refl refl refl))
+    subst (λ q. AllFrom type_count (Q q) (length standard_types) q.subs) (sym is) (each_sub q more refl (Q q) (of_each q more refl) [] 0 at_start [] [] (erased p) refl refl refl refl)
+
+pub each_of_program : (Q : Program → Sub → Type 0) → ((p : Program) (more : List TypeRow) (types : p.types ≡ standard_types ++ more) → OfEach p more types (λ position. Q p)) → (p : Program) → Visible p → All (Q p) p.subs
+each_of_program Q of_each p is =
+    All-from_recursion (Q p) p.subs (each_from type_count (λ position. Q p) (Q p) (λ position sub h. h) (length standard_types) p.subs (each_in_order (λ p position. Q p) of_each p is))
 
 pub all_scoped : (p : Program) → Visible p → All (Scoped p) p.subs
 all_scoped p is = each_of_program Scoped scoped_sub p is

@@ -150,6 +150,7 @@ value_plain place (Some (entity.NamedNumber m)) t h n is = subst (λ (w : Typing
 value_plain place (Some (entity.Literal subtype m)) t h n is = standing_plain place subtype m t h n is
 value_plain place (Some (entity.TypeName subtype)) t h n is = absurd cc
 value_plain place (Some (entity.Subprogram id)) t h n is = absurd cc
+value_plain place (Some (entity.Field subtype)) t h n is = absurd cc
 
 -- a value that is shifted was static before
 shifted_from : (by : Shift) (o : Option ℤ) (n : ℤ) → shifted_value by o ≡ Some n → (k : ℤ) × (o ≡ Some k)
