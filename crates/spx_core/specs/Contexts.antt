@@ -1,6 +1,6 @@
 -- The type that a universal expression takes from its context (Ada 95 RM 3.4.1, 4.6, 8.6). A power of a universal number by an exponent that is not static is
 -- universal and not static, and so is what operators make of it. It takes the type that it meets: each of its largest static parts is converted to that type.
-use Rattle.std.specs.Prelude.{◌≡◌, refl, ℤ, Bool, true, false, not, ◌&&◌, is_some, Option, Some, None, if◌then◌else◌, Ok, Err}
+use Rattle.std.specs.Prelude.{◌≡◌, refl, ℤ, Bool, true, false, not, ◌&&◌, is_some, List, Option, Some, None, if◌then◌else◌, Ok, Err}
 use denote.Hole.Carrier.{hidden}
 use Rattle.spx_text.specs.declared.place.Place.{Place}
 use Rattle.spx_core.specs.declared.function.FunctionForm.{FunctionForm}
