@@ -1,6 +1,6 @@
 -- A name that is resolved is written as it was.
 use Rattle.std.specs.Prelude.{⊤}
-use Rattle.std.proofs.Common.{◌≡◌, zero, suc, Bool, true, false, if◌then◌else◌, List, [], ◌∷◌, ◌++◌, map, Option, Some, None, ap, ap₂, ◌∙◌, sym, subst, refl}
+use Rattle.std.proofs.Common.{◌≡◌, zero, suc, Bool, true, false, not, if◌then◌else◌, List, [], ◌∷◌, ◌++◌, map, Option, Some, None, ap, ap₂, ◌∙◌, sym, subst, refl}
 use Rattle.std.specs.List.{flat_map}
 use Rattle.std.proofs.lemmas.List.{append-nil, append_assoc}
 use Rattle.spx_text.specs.declared.place.Place.{Place}
@@ -114,12 +114,16 @@ abbrev ValueWritten : Expr → Option CoreExpr → Type 0
 ValueWritten e None = ⊤
 ValueWritten e (Some value) = erased_expr value ≡ e
 
+-- what an attribute of an array stands with
+abbrev ends_in : Scene → TypeId → Subtype → ArrayEnds
+ends_in scene id index = record { array = id; index = index; is_static = not scene.declaring }
+
 end_written : (scene : Scene) (root : Identifier) (a : CoreExpr) (steps : List NameStep) (parts : List Expr) (id : TypeId) (index : Subtype) (designator : Identifier) → erased_expr a ≡ named root steps parts
     → ValueWritten (named root (steps ++ step.Attribute designator ∷ []) (parts ++ [])) (array_end scene a id index designator)
 end_written scene root a steps parts id index designator is = by_test (is_attribute designator.text)
   where
-    by_test : (b : Bool) → ValueWritten (named root (steps ++ step.Attribute designator ∷ []) (parts ++ [])) (if b then Some (expr.ArrayAttribute a designator _) else None)
-    by_test true = fold-ArrayAttribute erased_step a designator _ ∙ longer (step.Attribute designator) [] (erased_expr a) root steps parts is
+    by_test : (b : Bool) → ValueWritten (named root (steps ++ step.Attribute designator ∷ []) (parts ++ [])) (if b then Some (expr.ArrayAttribute a designator (ends_in scene id index)) else None)
+    by_test true = fold-ArrayAttribute erased_step a designator (ends_in scene id index) ∙ longer (step.Attribute designator) [] (erased_expr a) root steps parts is
     by_test false = tt
 
 value_is_written : (scene : Scene) (root : Identifier) (a : CoreExpr) (steps : List NameStep) (parts : List Expr) (id : TypeId) (f : Option TypeForm) (rest : List NameStep) (left : List CoreExpr) → erased_expr a ≡ named root steps parts
