@@ -165,10 +165,10 @@ module _ (T : Subtype → Type 0) (P : VarId → Object → Type 0) where
     abbrev pub AreKnown : List CoreName → Type 0
     AreKnown names = AllByRecursion (λ (name : CoreName). Holds T P name.entity) names
 
-    both_known : (xs ys : List CoreName) → AreKnown xs → AreKnown ys → AreKnown (xs ++ ys)
+    pub both_known : (xs ys : List CoreName) → AreKnown xs → AreKnown ys → AreKnown (xs ++ ys)
     both_known xs ys left right = each_append _ xs ys left right
 
-    known_variable : (v : VarId) (names : List CoreName) → AreKnown names → list_any (denotes v) names ≡ true → (object : Object) × P v object
+    pub known_variable : (v : VarId) (names : List CoreName) → AreKnown names → list_any (denotes v) names ≡ true → (object : Object) × P v object
     known_variable v [] known h = absurd cc
     known_variable v (name ∷ names) known h =
         elim (or_cases (denotes v name) (list_any (denotes v) names) h) [
@@ -234,3 +234,19 @@ module _ (T : Subtype → Type 0) (P : VarId → Object → Type 0) where
     target_known types name =
         target_of_known types (resolved_name regions name.path.root) name.path (map (resolved_in (in_code types) regions) name.parts) (denoted regions name.path.root.text) refl
         (all_resolved_hold ReadsKnown (λ part. ⊤) types (λ x is. tt) (λ x fields is found. tt) regions (forms_keep types) (in_code types) refl name.parts)
+
+-- ---- the root of a target
+
+target_at_root : (root : CoreName) (path : Path) (parts : List CoreExpr) (fault : NameFault) (way : List PartStep) (rest : List NameStep) (left : List CoreExpr) → (target_at root path parts fault way rest left).root ≡ root
+target_at_root root path parts fault way [] [] = refl
+target_at_root root path parts fault way rest left = refl
+
+target_of_root : (types : List TypeRow) (word : Identifier) (o : Option Entity) (path : Path) (parts : List CoreExpr) → (target_of types (record { name = word; entity = o }) path parts).root ≡ record { name = word; entity = o }
+target_of_root types word (Some (entity.Variable v object)) path parts =
+    let x = along types object.subtype path.steps parts in
+    target_at_root (record { name = word; entity = Some (entity.Variable v object) }) path parts _ x.way x.rest x.parts
+target_of_root types word other path parts = target_at_root (record { name = word; entity = other }) path parts _ [] path.steps parts
+
+-- is its first identifier, with what this denotes
+pub target_root : (types : List TypeRow) (regions : Regions) (name : Name) → (resolved_target types regions name).root ≡ resolved_name regions name.path.root
+target_root types regions name = target_of_root types name.path.root (denoted regions name.path.root.text) name.path (map (resolved_in (in_code types) regions) name.parts)
