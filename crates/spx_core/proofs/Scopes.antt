@@ -269,7 +269,7 @@ module _ (table : List TypeRow) (T : Subtype → Type 0) (P : VarId → Object �
         let all : (list_any (denotes v) way || list_any (denotes v) (names_read value ++ whole_read target)) ≡ true = sym (list_any-append (denotes v) way (names_read value ++ whole_read target)) ∙ sym (reads_assigned_uses v target value) ∙ h in
         ⊎_elim (way_variable target place)
         (λ rest. ⊎_elim (λ read. value_variable value written (reads_uses v value ∙ read)) (whole_variable target place target.way refl)
-          (or_cases (list_any (denotes v) (names_read value)) (list_any (denotes v) (whole_read target)) (sym (list_any-append (denotes v) (names_read value) (whole_read target)) ∙ rest)))
+        (or_cases (list_any (denotes v) (names_read value)) (list_any (denotes v) (whole_read target)) (sym (list_any-append (denotes v) (names_read value) (whole_read target)) ∙ rest)))
         (or_cases (list_any (denotes v) way) (list_any (denotes v) (names_read value ++ whole_read target)) all)
 
     bounds_variable : (bounds : Option CoreRange) → AreValues bounds → is_read v (reads_in (option_map reads_of_range bounds)) ≡ true → (object : Object) × P v object
@@ -765,7 +765,7 @@ module _ (p : Program) (more : List TypeRow) (types : p.types ≡ standard_types
       let back = flat_map own_types later in (
         of_each library position counts s before after len vars front back count rows_are,
         subst (λ n. AllFrom type_count Q n later) (length-append counts.types (own_types one))
-        (each_sub Q of_each next (position + 1) (counted_sub counts one) (before ++ own_vars one) (front ++ own_types one) units
+            (each_sub Q of_each next (position + 1) (counted_sub counts one) (before ++ own_vars one) (front ++ own_types one) units
             (length-append before (own_vars one) ∙ ap (λ n. n + length (own_vars one)) len)
             (sym (append_assoc standard_types front (own_types one)) ∙ ap (λ (xs : List TypeRow). xs ++ own_types one) count)
             (vars ∙ sym (append_assoc before (own_vars one) after))

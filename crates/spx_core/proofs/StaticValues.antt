@@ -243,7 +243,6 @@ static_plain _ _ (element_of a place i x o k t d c h) n is =
 static_plain _ _ (selected_of a field x o t d h) n is =
     let fits = bound (keeps N10 o.place (is_typed_at x.record o.of)) _ t h in
     not_static (Of x.field.base) o.place t (ok_is fits.2) n is
-
 static_plain _ _ (attribute_of_array a designator x o t d h) n is =
     let fits = bound (keeps N10 o.place (is_typed_at x.array o.of)) _ t h in
     let ends = bound (keeps N3 o.place (has_end x.index designator.text)) _ t fits.2 in

@@ -96,8 +96,7 @@ going_written : (types : List TypeRow) (of : Subtype) (s : NameStep) (steps : Li
 going_written types of s steps parts None is more = (refl, refl)
 going_written types of s steps parts (Some one) is more =
     let rest = more one.of one.parts in
-    let x = along types one.of steps one.parts in
-    (
+    let x = along types one.of steps one.parts in (
       ap₂ (λ (y : NameStep) (ys : List NameStep). y ∷ ys) is.0 rest.0,
       append_assoc (parts_written one.step) (flat_map parts_written x.way) (all_written x.parts) ∙ ap (λ (ys : List Expr). parts_written one.step ++ ys) rest.1 ∙ is.1,
     )
