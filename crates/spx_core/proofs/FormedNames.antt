@@ -1,7 +1,7 @@
 -- The parts that are named in what is resolved are as the table of types says.
-use Rattle.std.specs.Prelude.{⊤, option_and_then, slice_get}
+use Rattle.std.specs.Prelude.{option_and_then, slice_get}
 use Rattle.std.specs.List.{AllByRecursion}
-use Rattle.std.proofs.Common.{◌≡◌, ℕ, zero, suc, ℤ, Bool, List, [], ◌∷◌, ◌++◌, map, Option, Some, None, option_map, refl, sym, ap, subst, ◌∙◌}
+use Rattle.std.proofs.Common.{◌≡◌, ℕ, zero, suc, List, [], ◌∷◌, ◌++◌, map, Option, Some, None, option_map, refl, sym, ap, subst, ◌∙◌}
 use Rattle.spx_tree.specs.declared.expression.Expr.{Expr}
 use Rattle.spx_tree.specs.declared.expression.Name.{Name}
 use Rattle.spx_tree.specs.declared.expression.NameStep.{NameStep}
@@ -27,7 +27,7 @@ use Rattle.spx_core.specs.declared.rule.ExprType.{ExprType}
 use Rattle.spx_core.specs.declared.rule.ExprType.TheVariants.{Of}
 use Rattle.spx_core.specs.Contexts.{in_context}
 use Rattle.spx_core.specs.NamedParts.{along, form_in}
-use Rattle.spx_core.specs.Parts.{IsAsFormed, Part, an_element, a_field, field_of, field_of_form, form_at, parts_in, parts_on_way, parts_step}
+use Rattle.spx_core.specs.Parts.{IsAsFormed, Part, an_element, a_field, field_of_form, form_at, parts_in, parts_on_way, parts_step}
 use Rattle.spx_core.specs.Regions.{Regions, denoted}
 use Rattle.spx_core.specs.Resolved.{Scene, in_code, resolved_in, resolved_name, resolved_target, step_in_context, target_along, target_at, target_of}
 use Rattle.spx_core.proofs.Callers.Expressions.{fold-Number, fold-Name, fold-Entry, fold-Attribute, fold-Applied, fold-Parenthesized, fold-Prefix, fold-Infix, fold-InType, fold-InRange, fold-Element, fold-Selected, fold-ArrayAttribute, fold-Faulty}

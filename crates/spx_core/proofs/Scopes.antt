@@ -1,7 +1,7 @@
 -- The names of a subprogram denote the variables that it declares, each with what is declared of it.
-use Rattle.std.proofs.Common.{◌≡◌, ℕ, ◌+◌, Bool, true, false, ◌||◌, List, [], ◌∷◌, ◌++◌, length, map, Option, Some, None, option_map, is_some, refl, sym, ap, ap₂, subst, ◌∙◌, ⊎_elim, append-nil, append_assoc, length-append, ◌≤◌, take, drop, inl, inr, arith}
+use Rattle.std.proofs.Common.{◌≡◌, ℕ, ◌+◌, Bool, true, false, ◌||◌, List, [], ◌∷◌, ◌++◌, length, map, Option, Some, None, option_map, is_some, refl, sym, ap, ap₂, subst, ◌∙◌, ⊎_elim, append_assoc, length-append, ◌≤◌, take, drop, inl, inr, arith}
 use Rattle.std.specs.Prelude.{⊤, All, ◌&&◌, option_and_then, slice_get, ◌==◌}
-use Rattle.std.specs.List.{AllByRecursion, filter_map, flat_map, list_any}
+use Rattle.std.specs.List.{AllByRecursion, flat_map, list_any}
 use Rattle.std.proofs.lemmas.Bool.{and_parts, false_from_ne_true, or_cases, or_left, or_right, eqb-true}
 use Rattle.std.proofs.lemmas.List.{length-map, map-append, take-append-drop}
 use Rattle.std.proofs.Common.{get_or}
@@ -53,11 +53,11 @@ use Rattle.spx_core.specs.Commands as commands_of
 use Rattle.spx_core.specs.NamedParts.{form_in}
 use Rattle.spx_core.specs.Parts.{IsAsFormed, form_at, parts_in, parts_in_bounds, parts_on_way}
 use Rattle.spx_core.specs.Reads.{names_on_way, names_read, whole_read}
-use Rattle.spx_core.specs.Uses.{denotes, mentions, uses, is_same}
+use Rattle.spx_core.specs.Uses.{denotes, mentions, is_same}
 use Rattle.spx_core.specs.Dependency.{items_of}
 use Rattle.spx_core.specs.Mirror.DerivesItems.{has_export, has_import}
 use Rattle.spx_core.specs.Formals.{is_formal, is_local, mode_in, mode_of, stands_in, inner, is_inner, is_loop_parameter}
-use Rattle.spx_core.specs.Effects.{Effect, Read, chosen, counts, effect, effect_among, is_read, read_of, reads, reads_assigned, reads_of, sets, assigns, reads_in, reads_of_range}
+use Rattle.spx_core.specs.Effects.{Effect, Read, chosen, counts, effect, effect_among, is_read, reads, reads_assigned, reads_of, sets, assigns, reads_in, reads_of_range}
 use Rattle.spx_core.specs.Obeyed.{mode_denoted}
 use Rattle.spx_core.specs.Regions.{Region, Regions}
 use Rattle.spx_core.specs.Resolved.{after_formals, around_body, at_start, counted_sub, Before, Scene, in_annotation, in_code, next_type, type_of_target, declaring, declaring_all, exported_names, formal_names, items_for, local_names, local_variables, own_types, own_vars, resolved_derives, resolved_expr, resolved_in, resolved_item, resolved_predicate, resolved_reference, resolved_sub, resolved_subs, resolved_target, standard_types, unit_name, var_of, around_names, declared_by_count, loop_names, object_of, positions, resolved_choice, resolved_count, resolved_range, resolved_condition, type_named}

@@ -3,9 +3,8 @@ use Rattle.std.specs.Prelude.{⊤}
 use Rattle.std.proofs.Common.{◌≡◌, zero, suc, Bool, true, false, not, if◌then◌else◌, List, [], ◌∷◌, ◌++◌, map, Option, Some, None, ap, ap₂, ◌∙◌, sym, subst, refl}
 use Rattle.std.specs.List.{flat_map}
 use Rattle.std.proofs.lemmas.List.{append-nil, append_assoc}
-use Rattle.spx_text.specs.declared.place.Place.{Place}
 use Rattle.spx_tree.specs.declared.expression.Arguments.TheVariants.{Positional}
-use Rattle.spx_tree.specs.declared.expression.Expr.{Expr, Expr-F, out-Expr}
+use Rattle.spx_tree.specs.declared.expression.Expr.{Expr, Expr-F}
 use Rattle.spx_tree.specs.declared.expression.Expr.TheVariants as written
 use Rattle.spx_tree.specs.declared.expression.Expr.TheVariants.{outs-Name}
 use Rattle.spx_tree.specs.declared.expression.Identifier.{Identifier}
@@ -17,18 +16,16 @@ use Rattle.spx_core.specs.declared.entity.Entity.{Entity}
 use Rattle.spx_core.specs.declared.entity.Entity.TheVariants as entity
 use Rattle.spx_core.specs.declared.entity.Subtype.{Subtype}
 use Rattle.spx_core.specs.declared.entity.TypeId.{TypeId}
-use Rattle.spx_core.specs.declared.expression.CoreExpr.{CoreExpr, CoreExpr-F}
+use Rattle.spx_core.specs.declared.expression.CoreExpr.{CoreExpr}
 use Rattle.spx_core.specs.declared.expression.CoreExpr.TheVariants as expr
-use Rattle.spx_core.specs.declared.function.FunctionForm.TheVariants as form
 use Rattle.spx_core.specs.declared.name.CoreName.{CoreName}
-use Rattle.spx_core.specs.declared.name.FaultyName.{FaultyName}
 use Rattle.spx_core.specs.declared.name.NameFault.{NameFault}
 use Rattle.spx_core.specs.declared.part.ArrayEnds.{ArrayEnds}
 use Rattle.spx_core.specs.declared.part.PartStep.{PartStep}
 use Rattle.spx_core.specs.declared.part.PartStep.TheVariants as part
 use Rattle.spx_core.specs.declared.part.Selection.{Selection}
 use Rattle.spx_core.specs.declared.program.TypeForm.{TypeForm}
-use Rattle.spx_core.specs.declared.program.TypeForm.TheVariants.{Scalar, Array, Record}
+use Rattle.spx_core.specs.declared.program.TypeForm.TheVariants.{Array, Record}
 use Rattle.spx_core.specs.declared.program.TypeRow.{TypeRow}
 use Rattle.spx_core.specs.declared.rule.ExprType.TheVariants.{Of}
 use Rattle.spx_core.specs.Judged.{is_attribute}

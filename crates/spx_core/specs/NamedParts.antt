@@ -1,5 +1,5 @@
 -- Which part of an object a name denotes (Ada 95 RM 4.1.1, 4.1.3): the steps after its first identifier, one by one.
-use Rattle.std.specs.Prelude.{ℕ, zero, suc, ◌+◌, Bool, List, [], ◌∷◌, Option, Some, None, option_map, slice_get, if◌then◌else◌, Result, Ok, Err}
+use Rattle.std.specs.Prelude.{ℕ, zero, suc, ◌+◌, List, [], ◌∷◌, Option, Some, None, option_map, slice_get, if◌then◌else◌}
 use Rattle.std.specs.Str.{str_eq_ignore_ascii_case}
 use Rattle.spx_tree.specs.declared.expression.Arguments.TheVariants.{Positional}
 use Rattle.spx_tree.specs.declared.expression.NameStep.{NameStep}
@@ -10,13 +10,12 @@ use Rattle.spx_core.specs.declared.expression.CoreExpr.{CoreExpr}
 use Rattle.spx_core.specs.declared.expression.CoreExpr.TheVariants as expr
 use Rattle.spx_core.specs.declared.name.NameFault.{NameFault}
 use Rattle.spx_core.specs.declared.name.NameFault.TheVariants.{NoField, WrongArguments, NoPart}
-use Rattle.spx_core.specs.declared.part.Indexing.{Indexing}
 use Rattle.spx_core.specs.declared.part.PartStep.{PartStep}
 use Rattle.spx_core.specs.declared.part.PartStep.TheVariants as part
 use Rattle.spx_core.specs.declared.part.Selection.{Selection}
 use Rattle.spx_core.specs.declared.program.Field.{Field}
 use Rattle.spx_core.specs.declared.program.TypeForm.{TypeForm}
-use Rattle.spx_core.specs.declared.program.TypeForm.TheVariants.{Scalar, Array, Record}
+use Rattle.spx_core.specs.declared.program.TypeForm.TheVariants.{Array, Record}
 use Rattle.spx_core.specs.declared.program.TypeRow.{TypeRow}
 
 -- what the values of the type at a position are made of, by a table of types

@@ -1,5 +1,5 @@
 -- Names and expressions as they were written, without what they denote.
-use Rattle.std.specs.Prelude.{ℕ, List, [], ◌∷◌, ◌++◌, map}
+use Rattle.std.specs.Prelude.{List, [], ◌∷◌, ◌++◌, map}
 use Rattle.std.specs.List.{flat_map}
 use Rattle.spx_text.specs.declared.place.Place.{Place}
 use Rattle.spx_tree.specs.declared.expression.Arguments.TheVariants.{Positional}
@@ -9,9 +9,7 @@ use Rattle.spx_tree.specs.declared.expression.Identifier.{Identifier}
 use Rattle.spx_tree.specs.declared.expression.Name.{Name}
 use Rattle.spx_tree.specs.declared.expression.NameStep.{NameStep}
 use Rattle.spx_tree.specs.declared.expression.NameStep.TheVariants as step
-use Rattle.spx_tree.specs.declared.expression.Path.{Path}
 use Rattle.spx_core.specs.declared.expression.CoreExpr.{CoreExpr, CoreExpr-F, fold-CoreExpr}
-use Rattle.spx_core.specs.declared.function.CoreFunction.{CoreFunction}
 use Rattle.spx_core.specs.declared.function.FunctionForm.{FunctionForm}
 use Rattle.spx_core.specs.declared.function.FunctionForm.TheVariants as form
 use Rattle.spx_core.specs.declared.name.Defining.{Defining}
