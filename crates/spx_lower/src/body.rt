@@ -106,9 +106,7 @@ fn lowered(alloc: Global, stmt: &CoreStmt) -> Result<Item, AllocError>
         CoreStmt::Case(place, selector, alternatives, _) => {
             lowered_case(alloc, alternatives.as_slice(), *place, selector.get())
         }
-        CoreStmt::Loop(scheme, _, body, _) => {
-            lowered_loop(alloc, body.as_slice(), scheme)
-        }
+        CoreStmt::Loop(scheme, _, body, _) => { lowered_loop(alloc, body.as_slice(), scheme) }
         CoreStmt::Assertion(_, _, condition) => {
             let reads = reads_of(alloc, condition.get())?;
             Ok(Item::Observe(reads))
