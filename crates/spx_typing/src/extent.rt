@@ -5,8 +5,8 @@ ghost use Rattle.spx_core.specs.Judged.{application, named_type};
 ghost use Rattle.spx_core.specs.Resolved.{static_value};
 ghost use Rattle.spx_core.specs.declared.expression.CoreExpr.{out-CoreExpr};
 
-use spx_core::{CoreExpr, CoreFunction, Entity, ExprType, Span, Typing};
-use spx_tree::{FunctionForm, InfixOp, PrefixOp};
+use spx_core::{CoreExpr, CoreFunction, Entity, ExprType, FunctionForm, Span, Typing};
+use spx_tree::{InfixOp, PrefixOp};
 use spx_types::{application, judge, named_type, span_of, span_of_type};
 
 /// Of a name the values of its subtype, for the present value and for that on entry.
@@ -145,6 +145,8 @@ pub fn extent(expr: &CoreExpr) -> Span
         | CoreExpr::InType(..)
         | CoreExpr::InRange(..)
         | CoreExpr::Element(..)
-        | CoreExpr::Selected(..) => own,
+        | CoreExpr::Selected(..)
+        | CoreExpr::ArrayAttribute(..)
+        | CoreExpr::Faulty(_) => own,
     }
 }
