@@ -22,8 +22,8 @@ use crate::parts::{PlacedStep, part};
 use crate::slots::look;
 use crate::stop::{Stop, answer};
 use spx_core::{
-    ArrayEnds, BaseType, Class, CoreExpr, CoreFunction, Indexing, Reference, Selection, Span, VarId,
-    variable_of,
+    ArrayEnds, BaseType, Class, CoreExpr, CoreFunction, Indexing, Reference, Selection, Span,
+    VarId, variable_of,
 };
 use spx_meaning::{Bad, BadKind, Value, is_same, is_within};
 use spx_static::{base_of, literal, subtype_of};
