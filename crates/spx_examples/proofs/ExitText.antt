@@ -2,7 +2,7 @@
 use Rattle.std.proofs.Common.{◌≡◌, ℕ, List, [], ◌∷◌, ◌++◌, Some, refl, sym, ap, ap₂, subst, ◌∙◌, arith}
 use Rattle.std.specs.Prelude.{codes}
 use denote.Hole.Carrier.{hidden}
-use Rattle.spx_tree.specs.declared.expression.Expr.TheBlock.{hidden-the_row-Expr-0}
+use Rattle.spx_tree.specs.declared.expression.Expr.TheBlock.{hidden-the_row-Expr-0, hidden-the_row-Expr-1}
 use Rattle.spx_tree.specs.declared.statement.Scheme.TheVariants as written_scheme
 use Rattle.spx_tree.specs.declared.statement.Stmt.{Stmt-F, out-Stmt}
 use Rattle.spx_tree.specs.declared.statement.Stmt.TheVariants.{outs-Exit, outs-Loop}
@@ -20,13 +20,14 @@ use Rattle.spx_core.specs.declared.statement.CoreStmt.{CoreStmt}
 use Rattle.spx_core.specs.declared.statement.CoreStmt.TheVariants as stmt
 use Rattle.spx_core.specs.Commands.{Command, Then, commands}
 use Rattle.spx_core.specs.Regions.{standard}
-use Rattle.spx_core.specs.Resolved.{parameters_by_stmts, resolved, resolved_stmt, resolved_stmts, target_at}
+use Rattle.spx_core.specs.Resolved.{parameters_by_stmts, resolved, resolved_stmt, resolved_stmts, standard_types}
 use Rattle.spx_core.proofs.Callers.CommandForms.{command-Assignment, command-Endless, command-Exit}
 use Rattle.spx_core.proofs.Callers.LoopParameters.{parameters-Assignment, parameters-Endless, parameters-Exit}
 use Rattle.spx_examples.specs.Exits.{loop}
 use Rattle.spx_examples.specs.ExitText.{closing, exit_bytes, exit_command, exit_procedure, exit_program, exit_resolved, exit_sub, exit_tokens, exit_units, exit_written, loop_resolved, loop_written, step_resolved, step_written}
-use Rattle.spx_examples.specs.Increment.{place, x_written, successor_written, relation, x_named, successor}
+use Rattle.spx_examples.specs.Increment.{place, x_written, successor_written, relation, successor, x_at}
 use Rattle.spx_examples.specs.Loops.{only}
+use Rattle.spx_examples.specs.Names.{target_to}
 use Rattle.spx_examples.specs.Next.{below_hundred_at, below_written}
 use Rattle.spx_examples.proofs.IncrementNames.{outer, region, regions, x_denotes}
 use Rattle.spx_examples.proofs.IncrementText.{heading, derives, opening, step, ending, step_is, step_written_as, sum_expr}
@@ -53,7 +54,7 @@ spelled = spelled_by (heading ++ derives ++ opening ++ leaving ++ step ++ loop_e
 -- ---- its tree
 
 below_expr : IsExpr 1 (below_written 6 17)
-unfolding hidden-the_row-Expr-0 hidden
+unfolding hidden-the_row-Expr-0 hidden-the_row-Expr-1 hidden
 below_expr = record { low = omega arith; layered = (tt, tt, omega arith, omega arith); of_layer = omega arith }
 
 exit_is : out-Stmt exit_written ≡ Stmt-F.Exit (place 6 7) (Some (below_written 6 17))
@@ -83,27 +84,27 @@ loop_written_as : written_stmt loop_written ≡ around_turn (written_level (Stmt
 loop_written_as = spelled_stmt loop_written ∙ ap written_level loop_is ∙ ap₂ around_turn (spelled_stmt exit_written ∙ ap written_level exit_is) (step_written_as 7 7 12)
 
 pub as_written : written exit_units ≡ forms_of exit_bytes exit_tokens
-unfolding hidden-the_row-Expr-0 hidden
+unfolding hidden-the_row-Expr-0 hidden-the_row-Expr-1 hidden
 as_written = rw loop_written_as refl
 
 -- ---- its program
 
-turn_resolved : resolved_stmts (relation ∷ []) outer (exit_written ∷ step_written ∷ []) region 1 ≡ (exit_resolved ∷ step_resolved ∷ [], 1)
+turn_resolved : resolved_stmts standard_types (relation ∷ []) outer (exit_written ∷ step_written ∷ []) region 1 ≡ (exit_resolved ∷ step_resolved ∷ [], 1)
 turn_resolved =
-    ap (λ (first : CoreStmt × ℕ). (first.0 ∷ as_body (resolved_stmt (relation ∷ []) outer step_written region first.1), (resolved_stmt (relation ∷ []) outer step_written region first.1).1))
-    (resolved_exit (relation ∷ []) outer region 1 (place 6 7) (below_written 6 17) ∙ ap (λ (e : CoreExpr). (stmt.Exit (place 6 7) (Some e), 1)) (resolved_below regions x_denotes 6 17))
-    ∙ ap (λ (second : CoreStmt × ℕ). (exit_resolved ∷ as_body second, second.1)) (resolved_step (relation ∷ []) outer region 1 x_denotes 7 7 12)
+    ap (λ (first : CoreStmt × ℕ). (first.0 ∷ as_body (resolved_stmt standard_types (relation ∷ []) outer step_written region first.1), (resolved_stmt standard_types (relation ∷ []) outer step_written region first.1).1))
+    (resolved_exit standard_types (relation ∷ []) outer region 1 (place 6 7) (below_written 6 17) ∙ ap (λ (e : CoreExpr). (stmt.Exit (place 6 7) (Some e), 1)) (resolved_below standard_types regions x_denotes 6 17))
+    ∙ ap (λ (second : CoreStmt × ℕ). (exit_resolved ∷ as_body second, second.1)) (resolved_step standard_types (relation ∷ []) outer region 1 x_denotes 7 7 12)
 
-resolved_loop : resolved_stmt (relation ∷ []) outer loop_written region 1 ≡ (loop_resolved, 1)
+resolved_loop : resolved_stmt standard_types (relation ∷ []) outer loop_written region 1 ≡ (loop_resolved, 1)
 resolved_loop =
-    resolved_endless (relation ∷ []) outer region 1 (place 5 4) (exit_written ∷ step_written ∷ []) closing
+    resolved_endless standard_types (relation ∷ []) outer region 1 (place 5 4) (exit_written ∷ step_written ∷ []) closing
     ∙ ap (λ (made : List CoreStmt × ℕ). (stmt.Loop scheme.Endless (place 5 4) made.0 closing, made.1)) turn_resolved
 
 no_parameters : parameters_by_stmts (loop_resolved ∷ []) ≡ []
 no_parameters =
     in_one loop_resolved
     (parameters-Endless loop_resolved scheme.Endless (place 5 4) (exit_resolved ∷ step_resolved ∷ []) closing refl refl
-    ∙ ap₂ (λ (a b : List Defining). a ++ (b ++ [])) (parameters-Exit (place 6 7) (Some (below_hundred_at 6 17))) (parameters-Assignment (target_at (x_named 7 7)) (successor 7 12)))
+    ∙ ap₂ (λ (a b : List Defining). a ++ (b ++ [])) (parameters-Exit (place 6 7) (Some (below_hundred_at 6 17))) (parameters-Assignment (target_to (x_at 7 7)) (successor 7 12)))
 
 pub made : resolved exit_units ≡ exit_program
 unfolding standard
@@ -115,4 +116,4 @@ pub command_is : commands exit_sub.statements ≡ only exit_command
 command_is =
     ap only
     (command-Endless loop_resolved scheme.Endless (place 5 4) (exit_resolved ∷ step_resolved ∷ []) closing refl refl
-    ∙ ap₂ (λ (first second : Command). loop (Then first (only second))) (command-Exit (place 6 7) (Some (below_hundred_at 6 17))) (command-Assignment (target_at (x_named 7 7)) (successor 7 12)))
+    ∙ ap₂ (λ (first second : Command). loop (Then first (only second))) (command-Exit (place 6 7) (Some (below_hundred_at 6 17))) (command-Assignment (target_to (x_at 7 7)) (successor 7 12)))

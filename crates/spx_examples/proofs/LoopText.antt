@@ -2,7 +2,7 @@
 use Rattle.std.proofs.Common.{◌≡◌, ℕ, List, [], ◌∷◌, ◌++◌, refl, sym, ap, ap₂, subst, ◌∙◌, arith}
 use Rattle.std.specs.Prelude.{codes}
 use denote.Hole.Carrier.{hidden}
-use Rattle.spx_tree.specs.declared.expression.Expr.TheBlock.{hidden-the_row-Expr-0}
+use Rattle.spx_tree.specs.declared.expression.Expr.TheBlock.{hidden-the_row-Expr-0, hidden-the_row-Expr-1}
 use Rattle.spx_tree.specs.declared.statement.Scheme.TheVariants as written_scheme
 use Rattle.spx_tree.specs.declared.statement.Stmt.{Stmt-F, out-Stmt}
 use Rattle.spx_tree.specs.declared.statement.Stmt.TheVariants.{outs-Loop}
@@ -19,11 +19,12 @@ use Rattle.spx_core.specs.declared.statement.CoreStmt.{CoreStmt}
 use Rattle.spx_core.specs.declared.statement.CoreStmt.TheVariants as stmt
 use Rattle.spx_core.specs.Commands.{Command, Repeat, Tested, commands}
 use Rattle.spx_core.specs.Regions.{standard}
-use Rattle.spx_core.specs.Resolved.{parameters_by_stmts, resolved, resolved_stmt, target_at}
+use Rattle.spx_core.specs.Resolved.{parameters_by_stmts, resolved, resolved_stmt, standard_types}
 use Rattle.spx_core.proofs.Callers.LoopParameters.{parameters-Assignment, parameters-While}
-use Rattle.spx_examples.specs.Increment.{place, x_written, successor_written, relation, x_named, successor}
+use Rattle.spx_examples.specs.Increment.{place, x_written, successor_written, relation, successor, x_at}
 use Rattle.spx_examples.specs.Loops.{only}
 use Rattle.spx_examples.specs.LoopText.{closing, loop_bytes, loop_command, loop_procedure, loop_program, loop_resolved, loop_sub, loop_tokens, loop_units, loop_written}
+use Rattle.spx_examples.specs.Names.{target_to}
 use Rattle.spx_examples.specs.Next.{below_hundred_at, below_written, step as step_resolved, step_written}
 use Rattle.spx_examples.proofs.IncrementNames.{outer, region, regions, x_denotes}
 use Rattle.spx_examples.proofs.IncrementText.{heading, derives, opening, step, ending, step_is, step_written_as, sum_expr}
@@ -50,7 +51,7 @@ spelled = spelled_by (heading ++ derives ++ opening ++ test ++ step ++ loop_endi
 -- ---- its tree
 
 below_expr : IsExpr 1 (below_written 5 10)
-unfolding hidden-the_row-Expr-0 hidden
+unfolding hidden-the_row-Expr-0 hidden-the_row-Expr-1 hidden
 below_expr = record { low = omega arith; layered = (tt, tt, omega arith, omega arith); of_layer = omega arith }
 
 loop_is : out-Stmt loop_written ≡ Stmt-F.Loop (written_scheme.While (place 5 4) (below_written 5 10)) (place 5 18) (step_written ∷ []) closing
@@ -74,23 +75,23 @@ loop_written_as : written_stmt loop_written ≡ around_step (written_level (Stmt
 loop_written_as = spelled_stmt loop_written ∙ ap written_level loop_is ∙ ap around_step (step_written_as 6 7 12)
 
 pub as_written : written loop_units ≡ forms_of loop_bytes loop_tokens
-unfolding hidden-the_row-Expr-0 hidden
+unfolding hidden-the_row-Expr-0 hidden-the_row-Expr-1 hidden
 as_written = rw loop_written_as refl
 
 -- ---- its program
 
-resolved_loop : resolved_stmt (relation ∷ []) outer loop_written region 1 ≡ (loop_resolved, 1)
+resolved_loop : resolved_stmt standard_types (relation ∷ []) outer loop_written region 1 ≡ (loop_resolved, 1)
 resolved_loop =
-    resolved_while (relation ∷ []) outer region 1 (place 5 4) (below_written 5 10) (place 5 18) (step_written ∷ []) closing
+    resolved_while standard_types (relation ∷ []) outer region 1 (place 5 4) (below_written 5 10) (place 5 18) (step_written ∷ []) closing
     ∙ ap₂ (λ (condition : CoreExpr) (made : CoreStmt × ℕ). (stmt.Loop (scheme.While (place 5 4) condition) (place 5 18) (as_body made) closing, made.1))
-    (resolved_below regions x_denotes 5 10)
-    (resolved_step (relation ∷ []) outer region 1 x_denotes 6 7 12)
+    (resolved_below standard_types regions x_denotes 5 10)
+    (resolved_step standard_types (relation ∷ []) outer region 1 x_denotes 6 7 12)
 
 no_parameters : parameters_by_stmts (loop_resolved ∷ []) ≡ []
 no_parameters =
     in_one loop_resolved
     (parameters-While loop_resolved (scheme.While (place 5 4) (below_hundred_at 5 10)) (place 5 18) (step_resolved ∷ []) closing (place 5 4) (below_hundred_at 5 10) refl refl
-    ∙ in_one step_resolved (parameters-Assignment (target_at (x_named 6 7)) (successor 6 12)))
+    ∙ in_one step_resolved (parameters-Assignment (target_to (x_at 6 7)) (successor 6 12)))
 
 pub made : resolved loop_units ≡ loop_program
 unfolding standard
@@ -101,4 +102,4 @@ made = resolved_as loop_procedure (loop_resolved ∷ []) [] (ap as_body resolved
 pub command_is : commands loop_sub.statements ≡ only loop_command
 command_is =
     while_is (place 5 4) (below_hundred_at 5 10) (place 5 18) (step_resolved ∷ []) closing
-    ∙ ap (λ (body : Command). only (Repeat (Tested (place 5 4) (below_hundred_at 5 10)) body)) (assignment_is (x_named 6 7) (successor 6 12))
+    ∙ ap (λ (body : Command). only (Repeat (Tested (place 5 4) (below_hundred_at 5 10)) body)) (assignment_is (target_to (x_at 6 7)) (successor 6 12))

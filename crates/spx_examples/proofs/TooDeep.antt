@@ -3,9 +3,8 @@ use Rattle.std.proofs.Common.{◌≡◌, [], ◌∷◌, Ok, Err, refl, sym, pos,
 use Rattle.std.specs.Prelude.{codes}
 use denote.Hole.Carrier.{hidden}
 use Rattle.spx_tree.specs.declared.token.Kind.TheVariants as k
-use Rattle.spx_tree.specs.declared.expression.Expr.TheBlock.{hidden-the_row-Expr-0}
+use Rattle.spx_tree.specs.declared.expression.Expr.TheBlock.{hidden-the_row-Expr-0, hidden-the_row-Expr-1}
 use Rattle.spx_tree.specs.declared.expression.Expr.TheVariants as tree
-use Rattle.spx_tree.specs.declared.expression.Name.TheVariants.{Simple, Attribute}
 use Rattle.spx_tree.specs.Lexemes.{unreserved, kind_of_word, code_delimiters, delimiters}
 use Rattle.spx_tree.specs.Places.{place_after_bytes}
 use Rattle.spx_tree.specs.Spells.{Spells}
@@ -14,6 +13,7 @@ use Rattle.spx_tree.specs.Written.{program, applied, parenthesized, signed, oper
 use Rattle.spx_tree.specs.Grammar.{IsExpr}
 use Rattle.spx_tree.specs.Goes.{TooDeep, Begins, Answers}
 use Rattle.spx_examples.specs.Increment.{place, word, x_written, successor_written}
+use Rattle.spx_examples.specs.Names.{simple}
 use Rattle.spx_examples.specs.Stopped.{sum, sum_tokens}
 use Rattle.spx_examples.proofs.Spelling.{Word, Digits, Delimiter, Space, spelled_by}
 use Rattle.spx_examples.proofs.IncrementText.{sum_expr}
@@ -29,7 +29,7 @@ abbrev one_form : Form
 one_form = literal program (pos 1) (place 1 5)
 
 sum_forms : written_expr program (successor_written 1 1) ≡ forms_of sum sum_tokens
-unfolding hidden-the_row-Expr-0 hidden
+unfolding hidden-the_row-Expr-0 hidden-the_row-Expr-1 hidden
 sum_forms = refl
 
 pub sum_spelled : Spells 0 sum sum_tokens
@@ -42,7 +42,7 @@ sum_answer = record { taken = forms_of sum sum_tokens; parts = refl; text = sym 
 -- an expression without operators goes on with none
 no_operator : Begins (written_expr program) IsExpr 0 (x_form ∷ plus_form ∷ []) → ⊥
 no_operator (more, tree.Number value at, fit, e) = absurd cc
-no_operator (more, tree.Name (Simple name), fit, e) = absurd cc
+no_operator (more, tree.Name (simple name), fit, e) = absurd cc
 no_operator (more, tree.Name (Attribute prefix designator), fit, e) = let kind : k.Plus ≡ k.Apostrophe = second_kind _ _ _ _ _ _ e in absurd cc
 no_operator (more, tree.Entry name, fit, e) = let kind : k.Plus ≡ k.Tilde = second_kind _ _ _ _ _ _ e in absurd cc
 no_operator (more, applied function at operand, fit, e) = omega (arith, fit.low)

@@ -1,4 +1,5 @@
 pub mod Answers
+pub mod Names
 pub mod Types
 pub mod Example
 pub mod Branches
