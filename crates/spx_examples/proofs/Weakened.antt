@@ -59,7 +59,7 @@ use Rattle.spx_meaning.proofs.Callers.Annotations.{computed_is_meant}
 use Rattle.spx_examples.specs.Assertions.{doing, program_of}
 use Rattle.spx_examples.specs.Increment.{place, integer_at, x, x_at, successor, step, inc, increment, entry_x}
 use Rattle.spx_examples.specs.CountedLoops.{before, between_numbers, i, i_at, over, with_parameter}
-use Rattle.spx_examples.specs.Flag.{flag, named, y}
+use Rattle.spx_examples.specs.Flag.{flag, y}
 use Rattle.spx_examples.specs.Flag as flags
 use Rattle.spx_examples.specs.Loops.{endless, passing_on, passing_turn_by_turn, runs_from}
 use Rattle.spx_examples.specs.Loops as loops
@@ -654,7 +654,7 @@ others_kept n v w =
 
 -- `name := X`, from 41
 reaches : (name : CoreName) (n : ℕ) (v w : Option Value) → call (with_other (reaching name)) n (reaching name) (all_of (number (pos 41)) v w)
-    ≡ to_end (reaching name) (taking (around (with_other (reaching name)) (reaching name) (all_of (number (pos 41)) v w)) (all_of (number (pos 41)) v w) (named name) (Name (x_at 6 9)) (Gives (value.Number (pos 41))))
+    ≡ to_end (reaching name) (taking (around (with_other (reaching name)) (reaching name) (all_of (number (pos 41)) v w)) (all_of (number (pos 41)) v w) name (Name (x_at 6 9)) (Gives (value.Number (pos 41))))
 reaches name n v w =
     let s : Store = all_of (number (pos 41)) v w in
     let f : Frame = around (with_other (reaching name)) (reaching name) s in
