@@ -35,6 +35,7 @@ pub mod Weakenings
 pub mod CompositeExamples
 pub mod PartExamples
 pub mod PartPrograms
+pub mod PartNames
 pub mod LinearExamples
 pub mod StepExamples
 pub mod ScriptExamples
