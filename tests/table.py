@@ -441,10 +441,10 @@ LOCAL_TOKENS = (
 # A text of the grammar with an attribute in each place of a name, which breaks the rules on names.
 ATTRIBUTE_TOKENS = (
     *plain('procedure Att ( A : in Integer'),
-    ('apostrophe_of_a_type', "'", '.'),
+    ('apostrophe_of_a_type', "'", ','),
     ('designator_of_a_type', 'Base', 'range'),
     *plain('; X : out Integer ) \n--# derives X'),
-    ('apostrophe_of_an_export', "'", '~'),
+    ('apostrophe_of_an_export', "'", '<->'),
     ('designator_of_an_export', 'First', 'own'),
     *plain('from A'),
     ('apostrophe_of_an_import', "'", '->'),
@@ -456,7 +456,7 @@ ATTRIBUTE_TOKENS = (
     ('apostrophe_of_a_type_of_locals', "'", '+'),
     ('designator_of_a_type_of_locals', 'Base', '1'),
     *plain('; \n begin \n X'),
-    ('apostrophe_of_a_target', "'", '('),
+    ('apostrophe_of_a_target', "'", ';'),
     ('designator_of_a_target', 'First', 'access'),
     *plain(':= A ; \n end ;'),
 )
@@ -605,7 +605,7 @@ CASE_TOKENS = (
     *plain('X := Integer'),
     ('parenthesis_of_a_conversion', '(', '['),
     ('operand_of_a_conversion', 'A', ')'),
-    ('parenthesis_that_closes_a_conversion', ')', ','),
+    ('parenthesis_that_closes_a_conversion', ')', '..'),
     *plain('; \n'),
     ('end_of_a_case', 'end', 'begin'),
     ('case_at_the_end', 'case', 'if'),
@@ -682,7 +682,7 @@ DOUBLED = {'parenthesis_in_pre': 6, 'parenthesis': 3, 'parenthesis_of_a_sum': 7,
            'loop': 9, 'loop_after_bounds': 9}
 # What a text is with another token instead: which token after it is unexpected, if not itself; or a finding, and the
 # token at which it is. `on` is the type where `in` was, and another parameter may come after `;`.
-EXCHANGED = {'type': ('N1', 'type'), 'left_of_the_relation': ('N10', 'relation'), 'prefix': ('N3', 'prefix'),
+EXCHANGED = {'type': ('N1', 'type'), 'left_of_the_relation': ('N10', 'relation'), 'prefix': ('N3', 'prefix'), 'apostrophe': ('N3', 'prefix'),
              'designator': ('N3', 'prefix'), 'end_name': ('N5', 'end_name'), 'in': 1, 'closing_parenthesis': 1,
            'null_without_formals': ('U4', 'null_without_formals')}
 SPOILED = {'opening_parenthesis': bad_byte, 'parenthesis_of_a_conversion': bad_byte, 'parenthesis': bad_byte, 'parenthesis_that_closes': bad_byte,
@@ -1037,7 +1037,7 @@ def words():
                      procedure('1X', formals='1X', derives='1X from 1X', target='1X'), at=(1, 16))
     yield unexpected('hyphen_in_a_name.adb', procedure('X', name='In-c', end='In-c'), at=(1, 11))
     yield unexpected('point_in_a_name.adb', procedure('X', name='P.Inc', end='P.Inc'), at=(1, 12))
-    yield unexpected('selected_type.adb', procedure(type_mark='Standard.Integer', pre=BELOW), at=(1, 35))
+    yield refused('selected_type.adb', procedure(type_mark='@Standard.Integer', pre=BELOW), 'N1')
     yield bad_byte('dollar_in_a_name.adb', procedure('X', name='In$c', end='In$c'), at=(1, 13))
     yield accepted('upper_case.adb', INC.upper(), named='INC')
     yield accepted('lower_case.adb', INC.lower(), named='inc')
@@ -1332,7 +1332,7 @@ def grammar():
     yield unexpected('no_statement.adb', COPY.replace('   X := X;\n', ''), at=(5, 1))
     yield accepted('null_statement.adb', COPY.replace('X := X', 'null'), 0)
     yield unexpected('empty_statement.adb', COPY.replace('X := X;', ';'), at=(5, 4))
-    yield unexpected('call.adb', COPY.replace('X := X', 'Inc (X)'), at=(5, 8))
+    yield unexpected('call.adb', COPY.replace('X := X', 'Inc (X)'), at=(5, 11))
     yield accepted('if_statement.adb', COPY.replace('X := X;', 'if X > 0 then X := X; end if;'), 1)
     yield accepted('local_variable.adb', COPY.replace('is\n', 'is\n   Y : Integer;\n'), 1)
     yield refused('attribute_for_a_target.adb', procedure('X', target="@Integer'Last"), 'N3')
@@ -1342,7 +1342,7 @@ def grammar():
     yield accepted('parentheses.adb', procedure('(X)'), 1)
     yield accepted('parentheses_around_a_number.adb', procedure('X + (1)', pre=BELOW))
     yield unexpected('no_expression.adb', procedure('', **OUT), at=(5, 9))
-    yield unexpected('attribute_of_an_attribute.adb', procedure("Integer'First'Last", **OUT), at=(5, 22))
+    yield refused('attribute_of_an_attribute.adb', procedure("@Integer'First'Last", **OUT), 'N3')
     yield unexpected('attribute_of_a_number.adb', procedure("1'First", **OUT), at=(5, 10))
     yield unexpected('reserved_word_for_an_attribute.adb', procedure("Integer'Range", **OUT), at=(5, 17))
     yield unexpected('apostrophe_alone.adb', procedure("Integer'", **OUT), at=(5, 17))
@@ -1983,13 +1983,13 @@ def attributes():
     yield unexpected('attribute_for_a_second_local.adb',
                      longer(X, 'X from X', 'X := X', declared=["T, U@'First : Integer"]))
     yield unexpected('attribute_for_an_end_name.adb', procedure('X', end="Inc@'First"))
-    yield unexpected('attribute_of_an_attribute_for_a_target.adb', procedure('X', target="Integer'First@'Last"))
-    yield unexpected('attribute_of_an_attribute_for_a_type.adb', procedure('X', type_mark="Integer'Base@'Base"))
-    yield unexpected('attribute_of_an_attribute_for_an_import.adb', procedure('X', derives="X from X'First@'Last"))
+    yield refused('attribute_of_an_attribute_for_a_target.adb', procedure('X', target="@Integer'First'Last"), 'N3')
+    yield refused('attribute_of_an_attribute_for_a_type.adb', procedure('X', type_mark="@Integer'Base'Base"), 'N3')
+    yield refused('attribute_of_an_attribute_for_an_import.adb', procedure('X', derives="X from @X'First'Last"), 'N3')
     yield unexpected('attribute_of_parentheses.adb', procedure("(Integer)@'First", **OUT))
     yield refused('parentheses_behind_an_apostrophe.adb', procedure("Integer'(@First)", **OUT), 'N1')
     yield unexpected('parentheses_for_a_target.adb', COPY.replace('   X', '   @(X)'))
-    yield unexpected('parentheses_behind_a_target.adb', COPY.replace('   X', '   X @(1)'))
+    yield refused('parentheses_behind_a_target.adb', COPY.replace('   X', '   @X (1)'), 'N3')
     yield unexpected('sign_for_a_target.adb', COPY.replace('   X', '   @-X'))
     yield unexpected('marked_apostrophe_in_a_target.adb', procedure('X', target="Integer --# @'\nFirst"))
     yield unexpected('unmarked_apostrophe_in_an_import.adb', procedure('X', derives="X from X\n@'\n--# First"))
@@ -4031,13 +4031,14 @@ def membership_tests():
                             'in_after_a_type': 'A in Positive @in Positive', 'in_after_a_relation': 'A = 1 @in 1 .. 5',
                             'relation_after_a_range': 'A in 1 .. 5 @= F', 'relation_after_a_type': 'A in Positive @= F',
                             'two_ranges': 'A in 1 .. 5 @.. 6', 'range_of_a_type': 'A in Positive @range',
-                            'range_in_parentheses': 'A in (1 @.. 5)', 'attribute_of_an_attribute': "A in Positive'First@'Last",
+                            'range_in_parentheses': 'A in (1 @.. 5)',
                             'not_before_in': 'not @in 1 .. 5', 'not_not_in': 'A not @not in 1 .. 5',
                             'in_and_not': 'A in not B @', 'logical_operator_after_one_number': 'A in 1 @and F',
                             'bar': 'A in 1 .. 2 @| 4 .. 5'}.items():
         yield unexpected(f'membership_test_with_{name}.adb', tested(condition).replace('@ then', '@then'))
     for name, (rule, condition) in {
             'a_variable_for_a_type': ('N3', 'A in @B'), 'an_attribute_for_a_type': ('N3', "A in @Positive'First"),
+            'an_attribute_of_an_attribute': ('N3', "A in @Positive'First'Last"),
             'a_truth_value_for_a_type': ('N3', 'A in @True'),
             'the_procedure_for_a_type': ('N3', 'A in @Inc'), 'nothing_for_a_type': ('N1', 'A in @Count'),
             'an_attribute_of_nothing': ('N1', "A in @Count'First"),
@@ -5108,7 +5109,7 @@ def syntax_of_arrays():
             'array_with_a_value': 'type T is array (Boolean) of Integer @:= 1', 'array_word_first': '@array T (Boolean) of Integer',
             'variable_of_an_array': 'V : @array (Boolean) of Integer', 'constant_of_an_array': 'C : constant @array (Boolean) of Integer := 1',
             'subtype_of_a_written_array': 'subtype S is @array (Boolean) of Integer',
-            'variable_with_an_index': 'V : Integer @(1 .. 5)', 'subtype_with_an_index': 'subtype S is Integer @(1 .. 5)',
+            'variable_with_an_index': 'V : Integer (1 @.. 5)', 'subtype_with_an_index': 'subtype S is Integer (1 @.. 5)',
             'marked_array': 'type T is --# @array\n(Boolean) of Integer', 'marked_index': 'type T is array ( --# @Boolean\n) of Integer',
             'marked_of': 'type T is array (Boolean) --# @of\nInteger', 'marked_element': 'type T is array (Boolean) of --# @Integer\n'}.items():
         yield unexpected(f'{name}.adb', declaring(declared))
@@ -5125,7 +5126,7 @@ def syntax_of_records():
             'record_of_a_type': 'type T is record @type U is range 1 .. 5; end record',
             'record_of_fields_in_parentheses': 'type T is record @(P : Integer); end record',
             'field_with_a_value': 'type T is record P : Integer @:= 1; end record', 'field_with_a_range': 'type T is record P : Integer @range 1 .. 5; end record',
-            'field_with_an_index': 'type T is record P : Integer @(1 .. 5); end record', 'field_with_a_mode': 'type T is record P : @in Integer; end record',
+            'field_with_an_index': 'type T is record P : Integer (1 @.. 5); end record', 'field_with_a_mode': 'type T is record P : @in Integer; end record',
             'aliased_field': 'type T is record P : @aliased Integer; end record',
             'field_of_an_array': 'type T is record P : @array (Boolean) of Integer; end record',
             'field_of_a_record': 'type T is record P : @record Q : Integer; end record; end record',
@@ -5316,7 +5317,7 @@ def uses_of_composites():
             'of_an_integer': 'P := @A', 'of_a_comparison': 'P := @(P = Q)', 'to_an_integer': 'X := @P'}.items():
         yield refused(f'composite_assignment_{name}.adb', parted(statement), 'N10')
     for name, (rule, statement) in {
-            'first': ('N3', "X := @Pair'First"), 'last': ('N3', "X := @List'Last"), 'pos': ('N3', "X := @Pair'Pos (P)"), 'succ': ('N3', "P := @Same'Succ (P)"),
+            'first': ('N3', "X := @Pair'First"), 'last': ('N10', "X := @List'Last"), 'pos': ('N3', "X := @Pair'Pos (P)"), 'succ': ('N3', "P := @Same'Succ (P)"),
             'selector': ('N10', 'case @P is when others => null; end case'), 'selector_in_parentheses': ('N10', 'case @(L) is when 1 => null; when others => null; end case'),
             'choice': ('N10', 'case X is when @P => null; when others => null; end case'), 'loop': ('N10', 'for I in @Pair loop null; end loop'),
             'loop_over_a_range': ('N10', 'for I in @List range 1 .. 5 loop null; end loop'), 'bound_of_a_loop': ('N10', 'for I in Integer range 1 .. @P loop null; end loop'),
@@ -5499,17 +5500,19 @@ def flow_of_functions():
 
 def syntax_of_functions():
     """Tokens with which no function and its operand goes on, and the levels that it opens."""
-    for name, value in {'no_operand': 'Integer (@)', 'two_operands': 'Integer (A@, A)', 'named_operand': 'Integer (A @=> 1)',
+    for name, value in {'no_operand': 'Integer (@)', 'two_operands_and_a_formal': 'Integer (A, A @=> A)', 'named_operand_and_another': 'Integer (A => 1, A@)',
                         'open_parenthesis': 'Integer (A@', 'no_designator': "Integer'@", 'number_for_a_designator': "Integer'@5",
-                        'designator_after_parentheses': "Integer (A)@'First", 'attribute_of_an_attribute': "Integer'First@'Last",
                         'qualification_without_operand': "Integer'(@)", 'range_for_an_operand': 'Integer (1 @.. 5)',
                         'two_apostrophes': "Integer'@'(A)", 'reserved_designator': "Integer'@range (A)"}.items():
         yield unexpected(f'function_with_{name}.adb', longer(A_TO_X, 'X from A', f'X := {value}'))
     yield unexpected('function_with_a_marked_parenthesis.adb', longer(A_TO_X, 'X from A', 'X := Integer --# @(\nA)'))
-    yield unexpected('function_for_a_target.adb', longer(A_TO_X, 'X from A', 'Integer @(X) := A'))
-    yield unexpected('function_for_a_type.adb', longer(A_TO_X, 'X from A', 'X := A', declared=['T : Integer @(5)']))
-    yield unexpected('function_for_an_import.adb', longer(A_TO_X, 'X from Integer @(A)', 'X := A'))
-    yield unexpected('function_for_a_tested_type.adb', longer(A_TO_X, 'X from A', 'if A in Small (A) @then X := A; else X := 0; end if'))
+    for name, (rule, value) in {'two_operands': ('N14', '@Integer (A, A)'), 'a_named_operand': ('N14', '@Integer (A => 1)'),
+                                'a_designator_after_parentheses': ('N3', "@Integer (A)'First"), 'an_attribute_of_an_attribute': ('N3', "@Integer'First'Last")}.items():
+        yield refused(f'function_with_{name}.adb', longer(A_TO_X, 'X from A', f'X := {value}'), rule)
+    yield refused('function_for_a_target.adb', longer(A_TO_X, 'X from A', '@Integer (X) := A'), 'N3')
+    yield refused('function_for_a_type.adb', longer(A_TO_X, 'X from A', 'X := A', declared=['T : @Integer (5)']), 'N3')
+    yield refused('function_for_an_import.adb', longer(A_TO_X, 'X from @Integer (A)', 'X := A'), 'N3')
+    yield refused('function_for_a_tested_type.adb', longer(A_TO_X, 'X from A', 'if A in @Small (A) then X := A; else X := 0; end if'), 'N1')
     yield accepted('function_for_a_tested_bound.adb', longer(A_TO_X, 'X from A', 'if A in Integer (0) .. 5 then X := A; else X := 0; end if'), 2)
     yield accepted('function_of_200_levels.adb', longer(A_TO_X, 'X from A', f'X := Integer ({nested(199, "A")})'), 2)
     yield too_nested('function_of_201_levels.adb', longer(A_TO_X, 'X from A', f'X := Integer ({nested(200, "A")})'))
@@ -5836,17 +5839,19 @@ def syntax_of_predicates():
             yield examined(f'{name}_in_{word}.adb', text, (*row[:2], *((number, word) for number in row[2:])))
     spoiled = {'two_implications': 'A -> B @-> A', 'two_equivalences': 'A <-> B @<-> A', 'equivalence_after_an_implication': 'A -> B @<-> A',
                'no_left_side': '@-> B', 'no_right_side': 'A -> @', 'implication_after_not': 'not @-> B', 'arrow_for_an_implication': 'A @=> B',
-               'implication_in_a_conversion': 'Boolean (A @-> B)', 'implication_in_a_qualification': "Boolean'(A @-> B)", 'two_tildes': 'X~@~',
-               'attribute_of_a_value_on_entry': "X~@'First = 1", 'value_on_entry_of_an_attribute': "Integer'First@~ = 1",
-               'value_on_entry_of_parentheses': '(X)@~', 'value_on_entry_of_a_number': '5@~ = 5', 'operand_of_a_value_on_entry': 'X~ @(A)',
-               'tilde_before_a_name': '@~X', 'value_on_entry_of_a_function': "Boolean'(A)@~", 'value_on_entry_as_a_type': 'X in X~@',
-               'brackets': 'A @[B]'}
+               'implication_in_a_conversion': 'Boolean (A @-> B)', 'implication_in_a_qualification': "Boolean'(A @-> B)",
+               'value_on_entry_of_parentheses': '(X)@~', 'value_on_entry_of_a_number': '5@~ = 5',
+               'tilde_before_a_name': '@~X', 'brackets': 'A @[B]'}
     for name, condition in spoiled.items():
         yield unexpected(f'{name}_in_check.adb', longer(TRUTHS, 'X from X, A, B', 'X := X and A and B', f'--# check {condition}'))
+    nowhere = {'two_tildes': '@X~~', 'attribute_of_a_value_on_entry': "@X~'First = 1", 'value_on_entry_of_an_attribute': "@Integer'First~ = 1",
+               'operand_of_a_value_on_entry': '@X~ (A)', 'value_on_entry_of_a_function': "@Boolean'(A)~", 'value_on_entry_as_a_type': 'X in @X~'}
+    for name, condition in nowhere.items():
+        yield refused(f'{name}_in_check.adb', longer(TRUTHS, 'X from X, A, B', 'X := X and A and B', f'--# check {condition}'), 'N3')
     yield unexpected('implication_in_code.adb', longer(TRUTHS, 'X from X, A, B', 'if A -@> B then X := X; end if'))
     yield bad_byte('value_on_entry_in_code.adb', longer(X, 'X from X', 'X := X@~ + 1'))
-    yield unexpected('value_on_entry_in_derives.adb', procedure('X', derives='X@~ from X'))
-    yield unexpected('import_on_entry_in_derives.adb', procedure('X', derives='X from X@~'))
+    yield refused('value_on_entry_in_derives.adb', procedure('X', derives='@X~ from X'), 'N3')
+    yield refused('import_on_entry_in_derives.adb', procedure('X', derives='X from @X~'), 'N3')
     yield accepted('predicate_of_200_levels.adb', checking(f'{nested(199, "True")} -> True', 'X := X'), 2)
     yield too_nested('predicate_of_201_levels.adb', checking(f'{nested(200, "True")} -> True', 'X := X'))
     yield too_nested('right_side_of_201_levels.adb', checking(f'True -> {nested(200, "True")}', 'X := X'))
