@@ -53,6 +53,7 @@ module _ (scene : Scene) (around : Regions) where
 
   mutual
     unfolding roll-Expr roll hidden-the_row-Expr-0 hidden-the_row-Expr-1 hidden-the_row-CoreExpr-0 hidden
+
     pub resolution_is : (e : Expr) → resolved_in scene around e ≡ resolved_now e
     resolution_is (written_expr.Number n place) = at_layer (Expr-F.Number n place)
     resolution_is (Name' path shape parts) = resolved_at (Name' path shape parts) _ (outs-Name' path shape parts) ∙ ap (resolved_value scene around path) (ap (map (resolved_in scene around)) (items_shown-the_row-Expr-0 shape parts) ∙ parts_are _ parts)
