@@ -1,14 +1,12 @@
 -- What names without parts are resolved to.
-use Rattle.std.proofs.Common.{◌≡◌, List, [], ◌∷◌, Option, Some, None, map, refl, ap, ◌∙◌}
-use Rattle.spx_tree.specs.declared.expression.Expr.{Expr, Expr-F}
+use Rattle.std.proofs.Common.{◌≡◌, [], Option, Some, None, map, refl, ◌∙◌}
+use Rattle.spx_tree.specs.declared.expression.Expr.{Expr-F}
 use Rattle.spx_tree.specs.declared.expression.Expr.TheVariants.{outs-Name}
 use Rattle.spx_tree.specs.declared.expression.Identifier.{Identifier}
 use Rattle.spx_tree.specs.declared.expression.Name.{Name}
 use Rattle.spx_core.specs.declared.entity.Entity.{Entity}
 use Rattle.spx_core.specs.declared.entity.Entity.TheVariants as entity
-use Rattle.spx_core.specs.declared.expression.CoreExpr.{CoreExpr}
 use Rattle.spx_core.specs.declared.expression.CoreExpr.TheVariants as expr
-use Rattle.spx_core.specs.declared.name.CoreName.{CoreName}
 use Rattle.spx_core.specs.Regions.{Regions, denoted}
 use Rattle.spx_core.specs.Resolved.{Scene, resolved_in, resolved_name, resolved_value, value_of_path}
 use Rattle.spx_examples.specs.Names.{path_of, simple, value_named, without_parts}

@@ -1,5 +1,5 @@
 -- Names and expressions with them, as they are written and as what they denote.
-use Rattle.std.specs.Prelude.{List, [], ◌∷◌, Some, None}
+use Rattle.std.specs.Prelude.{List, [], ◌∷◌, None}
 use Rattle.spx_text.specs.declared.place.Place.{Place}
 use Rattle.spx_tree.specs.declared.expression.Arguments.TheVariants.{Positional}
 use Rattle.spx_tree.specs.declared.expression.Expr.{Expr, end_of-Expr, more_of-Expr}
