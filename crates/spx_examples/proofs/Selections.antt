@@ -39,7 +39,7 @@ use Rattle.spx_core.specs.Extents.{extent, extent-Name, extent_in, extent_named,
 use Rattle.spx_core.specs.Judged.{Judged, ◌>>=◌, application, each, expr_step, if_there, judged, keeps, mapped, named_value}
 use Rattle.spx_core.specs.Places.{place_in, place_of}
 use Rattle.spx_core.specs.Regions.{Region, Regions}
-use Rattle.spx_core.specs.Resolved.{Part, Scene, around_body, choice_of, in_code, or_zero, resolved_alternative, resolved_choice, resolved_condition, resolved_expr, resolved_name, resolved_static, resolved_stmt, value_in}
+use Rattle.spx_core.specs.Resolved.{Part, Scene, around_body, in_code, or_zero, resolved_alternative, resolved_choice, resolved_condition, resolved_expr, resolved_name, resolved_static, resolved_stmt, value_in}
 use Rattle.spx_core.specs.Resolved as resolving
 use Rattle.spx_core.specs.Shapes as shape
 use Rattle.spx_core.specs.Statements.{are_given_once, first_name_breach, judged_command, static_at}
@@ -56,14 +56,14 @@ use Rattle.spx_meaning.specs.Stores.{Store}
 use Rattle.spx_examples.specs.Declarations.{color, standing_for, stating}
 use Rattle.spx_examples.specs.Increment.{place}
 use Rattle.spx_examples.specs.NameRules.{alone}
-use Rattle.spx_examples.specs.Names.{simple, value_named}
+use Rattle.spx_examples.specs.Names.{path_of, without_parts}
 use Rattle.spx_examples.specs.Operators.{a, a_at, number}
 use Rattle.spx_examples.specs.Selections.{Chosen, color_program, giving, holding, literal_at}
 use Rattle.spx_examples.proofs.Declarations.{breach_where, breach_with, first as procedure, inside, now, seen_there, types_there}
 use Rattle.spx_examples.proofs.Contexts.{met_is, met_now}
 use Rattle.spx_examples.proofs.Evaluations.{assigns, eval_name}
 use Rattle.spx_examples.proofs.NameBreaches.{body_of, first_position}
-use Rattle.spx_examples.proofs.Names.{simple_is}
+use Rattle.spx_examples.proofs.Names.{alone_as}
 use Rattle.spx_examples.proofs.Resolving.{as_body, here}
 use Rattle.spx_examples.proofs.Statements.{and_no_more, null_is}
 
@@ -101,8 +101,8 @@ extent_is name =
     ∙ ap₂ (λ j out. with_static (value_in j) (extent_in (type_judged j) out)) (fold-Name expr_step name) (outs-Name name)
 
 -- a name alone, where it meets a type
-alone_is : (scene : Scene) (around : Regions) (of : ExprType) (name : Identifier) → resolved_expr scene of around (value_named (simple name)) ≡ expr.Name (resolved_name around name)
-alone_is scene around of name = ap (in_context of) (simple_is scene around name) ∙ unchanged of (expr.Name (resolved_name around name)) (fold-Name power_step (resolved_name around name))
+alone_is : (scene : Scene) (around : Regions) (of : ExprType) (name : Identifier) → resolved_expr scene of around (without_parts (path_of name [])) ≡ expr.Name (resolved_name around name)
+alone_is scene around of name = ap (in_context of) (alone_as scene around name) ∙ unchanged of (expr.Name (resolved_name around name)) (fold-Name power_step (resolved_name around name))
 
 -- ---- a `case` of two alternatives that do nothing
 
@@ -162,7 +162,7 @@ abbrev written : Option (List Choice) → Place → Alternative
 written choices at = record { choices = choices; body = written_stmt.Null at ∷ [] }
 
 abbrev case_written : Place → Identifier → (first second : Option (List Choice)) → (p q : Place) → Closing → Stmt
-case_written at selector first second p q closing = written_stmt.Case at (value_named (simple selector)) (written first p ∷ written second q ∷ []) closing
+case_written at selector first second p q closing = written_stmt.Case at (without_parts (path_of selector [])) (written first p ∷ written second q ∷ []) closing
 
 span_is : (low : CoreExpr) (high : Option CoreExpr) → resolving.chosen_by low high ≡ span_by judged low high
 span_is low None = refl
@@ -207,15 +207,15 @@ module _ (types : List TypeRow) (items : List CoreDerivesItem) (outer : Regions)
 
   -- the whole, where its alternatives are these
   abbrev case_with : Place → Identifier → Closing → CoreAlternative × ℕ → CoreAlternative × ℕ → CoreStmt × ℕ
-  case_with at selector closing b c = (stmt.Case at (resolved_condition (in_code types) around_case (value_named (simple selector))) (b.0 ∷ c.0 ∷ []) closing, c.1)
+  case_with at selector closing b c = (stmt.Case at (resolved_condition (in_code types) around_case (without_parts (path_of selector []))) (b.0 ∷ c.0 ∷ []) closing, c.1)
 
   resolved_case : (at : Place) (selector : Identifier) (first second : Option (List Choice)) (p q : Place) (closing : Closing)
       → resolved_stmt types items outer (case_written at selector first second p q closing) region position
-      ≡ (stmt.Case at (resolved_condition (in_code types) around_case (value_named (simple selector))) (core first p ∷ core second q ∷ []) closing, position)
+      ≡ (stmt.Case at (resolved_condition (in_code types) around_case (without_parts (path_of selector []))) (core first p ∷ core second q ∷ []) closing, position)
   unfolding roll-Stmt roll
   resolved_case at selector first second p q closing =
       ap (here types items outer region position)
-      (fold-roll-Stmt (Part CoreStmt) (Part CoreAlternative) (Part CoreArm) (resolving.stmt_step types items outer) (resolving.alternative_step types outer) (resolving.arm_step types outer) (Stmt-F.Case at (value_named (simple selector)) (written first p ∷ written second q ∷ []) closing))
+      (fold-roll-Stmt (Part CoreStmt) (Part CoreAlternative) (Part CoreArm) (resolving.stmt_step types items outer) (resolving.alternative_step types outer) (resolving.arm_step types outer) (Stmt-F.Case at (without_parts (path_of selector [])) (written first p ∷ written second q ∷ []) closing))
       ∙ ap (λ (b : CoreAlternative × ℕ). case_with at selector closing b (resolved_alternative types items outer (written second q) region b.1)) (alternative_is first p)
       ∙ ap (case_with at selector closing (core first p, position)) (alternative_is second q)
 
@@ -223,7 +223,7 @@ module _ (types : List TypeRow) (items : List CoreDerivesItem) (outer : Regions)
       → judged_command (body_of types items outer region position (case_written at selector first second p q closing ∷ [])) ≡ and_no_more (case_now (in_code types) around_case at selector first second)
   case_body at selector first second p q closing =
       let around : Regions = around_case in
-      let e : CoreExpr = resolved_condition (in_code types) around (value_named (simple selector)) in
+      let e : CoreExpr = resolved_condition (in_code types) around (without_parts (path_of selector [])) in
       let name : CoreName = resolved_name around selector in
       ap (λ made. judged_command (commands (as_body made))) (resolved_case at selector first second p q closing)
       ∙ ap judged_command (command_is at e (option_map (map (resolved_choice (in_code types) around)) first) (option_map (map (resolved_choice (in_code types) around)) second) (stmt.Null p ∷ []) (stmt.Null q ∷ []) closing)

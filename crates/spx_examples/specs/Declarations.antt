@@ -45,7 +45,7 @@ use Rattle.spx_meaning.specs.Runs.{Outcome, run}
 use Rattle.spx_meaning.specs.Stores.{Store}
 use Rattle.spx_examples.specs.Increment.{place, word, x_written, inc_written, increment}
 use Rattle.spx_examples.specs.NameRules.{alone}
-use Rattle.spx_examples.specs.Names.{attribute, operation, signed, simple, target_to, value_named}
+use Rattle.spx_examples.specs.Names.{attribute, operation, path_of, signed, simple, target_to, without_parts}
 use Rattle.spx_examples.specs.Operators.{a_at, number, two, values}
 
 -- ---- expressions, each at its line and column
@@ -54,11 +54,11 @@ abbrev pub number_in : ℤ → ℕ → ℕ → Expr
 number_in n line column = written_expr.Number n (place line column)
 
 abbrev pub name_in : List ℕ → ℕ → ℕ → Expr
-name_in text line column = value_named (simple (word text line column))
+name_in text line column = without_parts (path_of (word text line column) [])
 
 -- `text'designator`
 abbrev pub attribute_in : (text designator : List ℕ) → ℕ → ℕ → Expr
-attribute_in text designator line column = value_named (attribute (word text line column) (word designator line (column + 8)))
+attribute_in text designator line column = without_parts (attribute (word text line column) (word designator line (column + 8))).path
 
 -- a sign, with its operand in the next column
 abbrev pub signed_in : PrefixOp → (ℕ → ℕ → Expr) → ℕ → ℕ → Expr

@@ -1,10 +1,10 @@
 -- Names and expressions with them, as they are written and as what they denote.
-use Rattle.std.specs.Prelude.{List, [], ◌∷◌, Some, None}
+use Rattle.std.specs.Prelude.{List, [], ◌∷◌, None}
 use Rattle.spx_text.specs.declared.place.Place.{Place}
 use Rattle.spx_tree.specs.declared.expression.Arguments.TheVariants.{Positional}
 use Rattle.spx_tree.specs.declared.expression.Expr.{Expr, end_of-Expr, more_of-Expr}
 use Rattle.spx_tree.specs.declared.expression.Expr.TheVariants as written_expr
-use Rattle.spx_tree.specs.declared.expression.Expr.TheVariants.{Infix', InRange', Parenthesized', Prefix'}
+use Rattle.spx_tree.specs.declared.expression.Expr.TheVariants.{Infix', InRange', Name', Parenthesized', Prefix'}
 use Rattle.spx_tree.specs.declared.expression.Identifier.{Identifier}
 use Rattle.spx_tree.specs.declared.expression.InfixOp.{InfixOp}
 use Rattle.spx_tree.specs.declared.expression.MemberOp.{MemberOp}
@@ -43,19 +43,15 @@ value_named name = written_expr.Name name.path name.parts
 abbrev pub entry_named : Identifier → Expr
 entry_named root = value_named (name_of root (step.Entry ∷ []) [])
 
--- `name (operand)`, with the place of `(`
-abbrev pub conversion : Identifier → Place → Expr → Expr
-conversion name at operand = value_named (name_of name (step.Applied at (Positional 1) ∷ []) (operand ∷ []))
-
--- `name'designator (operand)`
-abbrev pub function : (name designator : Identifier) → Place → Expr → Expr
-function name designator at operand = value_named (name_of name (step.Attribute designator ∷ step.Applied at (Positional 1) ∷ []) (operand ∷ []))
-
--- `name'(operand)`
-abbrev pub qualified : Identifier → Place → Expr → Expr
-qualified name at operand = value_named (name_of name (step.Qualified at ∷ []) (operand ∷ []))
-
 -- ---- other written expressions, as patterns
+
+-- a name whose steps have no expressions
+pattern abbrev pub without_parts : Path → Expr
+without_parts path = Name' path [] end_of-Expr
+
+-- a name whose steps have one
+pattern abbrev pub with_part : Path → Expr → Expr
+with_part path a = Name' path (tt ∷ []) (more_of-Expr a end_of-Expr)
 
 -- an expression in parentheses
 pattern abbrev pub parenthesized : Place → Expr → Expr
@@ -72,6 +68,20 @@ operation op place left right = Infix' op place tt (more_of-Expr left end_of-Exp
 -- a membership test in a range
 pattern abbrev pub in_range : MemberOp → Place → Expr → Expr → Expr → Expr
 in_range op place tested low high = InRange' op place tt (more_of-Expr tested end_of-Expr) tt (more_of-Expr low end_of-Expr) tt (more_of-Expr high end_of-Expr)
+
+-- ---- functions of types
+
+-- `name (operand)`, with the place of `(`
+abbrev pub conversion : Identifier → Place → Expr → Expr
+conversion name at operand = with_part (path_of name (step.Applied at (Positional 1) ∷ [])) operand
+
+-- `name'designator (operand)`
+abbrev pub function : (name designator : Identifier) → Place → Expr → Expr
+function name designator at operand = with_part (path_of name (step.Attribute designator ∷ step.Applied at (Positional 1) ∷ [])) operand
+
+-- `name'(operand)`
+abbrev pub qualified : Identifier → Place → Expr → Expr
+qualified name at operand = with_part (path_of name (step.Qualified at ∷ [])) operand
 
 -- ---- with what they denote
 

@@ -29,7 +29,6 @@ ghost use Rattle.spx_meaning.specs.Evaluation.{Gives, Fails};
 ghost use Rattle.spx_formula.specs.Terms.{now_term, term_of};
 ghost use Rattle.spx_paths.specs.Checks.{checks, in_range};
 ghost use Rattle.spx_examples.specs.Declarations.{breach_of, color, constant_in, name_in, named_number_in, narrowed_in, number_in, operation_in, type_in};
-ghost use Rattle.spx_examples.specs.Flag.{named};
 ghost use Rattle.spx_examples.specs.Increment.{place, word};
 ghost use Rattle.spx_examples.specs.NameRules.{breach};
 ghost use Rattle.spx_examples.specs.Names.{target_to};

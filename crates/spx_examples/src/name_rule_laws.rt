@@ -9,7 +9,7 @@ ghost use Rattle.spx_core.specs.declared.rule.RuleName.TheVariants.{N1, N2, N3, 
 ghost use Rattle.spx_core.specs.Obeyed.{first_rule_breach};
 ghost use Rattle.spx_core.specs.Resolved.{resolved};
 ghost use Rattle.spx_core.specs.Statements.{first_name_breach};
-ghost use Rattle.spx_examples.specs.Increment.{word, x_written, successor_written, inc_units};
+ghost use Rattle.spx_examples.specs.Increment.{word, successor_written, inc_units};
 ghost use Rattle.spx_examples.specs.Names.{attribute, simple};
 ghost use Rattle.spx_examples.specs.Next.{next_units};
 ghost use Rattle.spx_examples.specs.NameRules.{breach, alone, name_at, attribute_at, number_at, operation_at, minus_at, comparison_at, with_target, with_statement, if_x_written, assigning, stepping, ending, with_local, with_pre, with_relation, with_formal, twice_written, of_own_name, second_written, broken_body, broken_local, broken_post, broken_pre, broken_relation, broken_formal};
