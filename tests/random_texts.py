@@ -515,7 +515,7 @@ class Writer:
         self.readable = ()
         self.changed_ones = ()
         self.known = 'True'
-        # Whether arrays have few elements.
+        # Whether texts are to be run: then arrays have few elements, and parts are in statements that are reached.
         self.is_small = False
 
     def text(self):
@@ -601,7 +601,11 @@ class Writer:
         names = self.random.sample(WHOLE_NAMES, self.random.choice((2, 3, 3, 4)))
         self.wholes = {whole: self.random.choice(self.declared.composites) for whole in names}
         self.readable = ('A', 'X')
-        statements = [Plain([('', [])]), Asserted(self.random.choice(('True', self.part_condition(formals))))] if self.random.random() < 0.85 else []
+        known = Asserted(self.random.choice(('True', self.part_condition(formals))))
+        if self.is_small:
+            statements = [known] if self.random.random() < 0.4 else []
+        else:
+            statements = [Plain([('', [])]), known] if self.random.random() < 0.85 else []
         targets = self.random.sample(locals_, len(locals_))
         for target in targets[:self.random.choice((1, 2, 3, 4))]:
             statements += self.part_statements((target,), (*formals, *locals_))

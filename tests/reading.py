@@ -1848,7 +1848,7 @@ class Resolver:
 
     def static(self, tree, kind=None):
         """An expression of a kind, or a number of any one. N10: it is such a one, which a universal one is too. N11: it is static."""
-        found = self.expression(tree)
+        found = whole(self.expression(tree))
         is_fit = common_kind((found.kind, kind)) is kind if kind else found.kind.values == 'numbers'
         require('N10', found.place, is_fit)
         require('N11', found.place, found.value is not None)
@@ -1999,7 +1999,7 @@ class Resolver:
 
     def chosen(self, tree, kind):
         """N10: a bound of a choice is of the type of the selector. N11: it is static. N12: it lies in that type."""
-        found = self.expression(tree)
+        found = whole(self.expression(tree))
         require('N10', found.place, found.kind is kind or (kind is not UNIVERSAL and common_kind((found.kind, kind)) is kind))
         require('N11', found.place, found.value is not None)
         require('N12', found.place, kind.has(found.value))

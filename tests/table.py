@@ -2543,6 +2543,15 @@ RULE_FROM_400 = """   if Year mod 400 = 0 then
 """
 
 
+# The guard that keeps a cursor within its array.
+RING_GUARD = """   if Cursor < Samples'Last then
+      Next := Cursor + 1;
+   else
+      Next := Samples'First;
+   end if;
+"""
+
+
 def worked_programs():
     """The worked examples from control software, and each with a change."""
     for name, named, total, piece, instead, fewer, left in (
@@ -2551,7 +2560,9 @@ def worked_programs():
             ('debounce', 'Debounce', 7, 'Count < 4 then', 'Count < 5 then', 7, {'post_5': 'post Count'}),
             ('checksum', 'Checksum', 16, '(Low + Number mod 255) mod 255;', 'Low + Number mod 255;', 15, {'range_8': '+ Number'}),
             ('leap_year', 'Leap_Year', 15, RULE_FROM_4, RULE_FROM_400, 15, {'post_3': 'post (Leap'}),
-            ('door', 'Door', 35, ' and not Blocked', '', 35, {'post_19': 'post State'})):
+            ('door', 'Door', 35, ' and not Blocked', '', 35, {'post_19': 'post State'}),
+            ('ring_cursor', 'Advance', 7, RING_GUARD, '   Next := Cursor + 1;\n', 4, {'range_2': '+ 1;'}),
+            ('histogram_bin', 'Bin_Of', 11, "   elsif Chosen > Counts'Last then\n      Chosen := Counts'Last;\n", '', 8, {'post_8': 'post Bin'})):
         text = (TOP / 'examples' / f'{name}.adb').read_text(encoding='utf-8')
         assert piece in text, name
         yield accepted(f'{name}.adb', text, total, named=named)
@@ -5557,7 +5568,8 @@ def parts_in_order():
             'the_type_of_a_part_after_its_indexes': ('N10', 'T (Red) (@B) := B'), 'a_right_side_after_the_target': ('N10', 'T (Red) (1) := @B'), 'two_indexes_before_the_right_side': ('N14', '@L (1, Y) := Z'),
             'a_wide_index_before_the_right_side': ('N12', 'L (@2147483648) := Y'), 'a_power_in_a_target_before_the_right_side': ('N12', 'L (@2147483648 * 2 ** X) := Y'),
             'a_part_of_a_power_before_the_right_operand': ('N12', 'X := L (@2147483648 * 2 ** X) + Y'), 'a_part_of_a_power_before_one_of_an_index': ('N12', 'X := @2147483649 * 2 ** X + L (2147483648 * 2 ** X)'),
-            'an_index_before_an_attribute': ('N1', "X := T (@Y)'First"), 'a_later_statement': ('N1', 'L (1) := 1; X := @Y')}.items():
+            'an_index_before_an_attribute': ('N1', "X := T (@Y)'First"), 'a_part_of_a_power_before_an_attribute': ('N12', "X := F.Rows (Hue'Val (@2147483648 * 2 ** X))'First + Y"),
+            'a_part_of_a_power_in_a_choice': ('N12', "case X is when T (Hue'Val (@2147483648 * 2 ** X))'First => null; when others => null; end case"), 'a_later_statement': ('N1', 'L (1) := 1; X := @Y')}.items():
         yield refused(f'order_of_{name}.adb', of_grid(statement), rule)
     yield refused('type_of_a_case_over_a_field.adb', of_grid('@case P.At_X is when 0 .. 8 => null; end case'), 'N17')
     yield refused('type_of_a_case_over_an_element.adb', of_grid('@case L (1) is when 1 .. 2 => null; end case'), 'N17')
@@ -5732,6 +5744,16 @@ def parts_that_close():
     yield left('bound_of_an_element_in_a_check', 1, '--# <1c>check R (S) <= 8', **by_rows)
     # An index in an annotation is not checked, and the element has its type's bounds wherever it is.
     yield closed('element_in_an_annotation', 1, '--# check L (X) >= -2147483648')
+
+
+def nodes_of_parts():
+    """A new part of a part has the whole once for each step: with n nodes before, `F.Rows (Red) (1) := 1` gives F 3 n + 10 nodes. So after k of them it has
+    6 * 3 ** k - 5, and each of them leaves a fact with one more.
+    """
+    frames = f'{DUO}; {HUES}; type Table is array (Hue) of Duo; type Frame is record Rows : Table; N : Integer; end record; F : Frame'
+    for count in (10, 11):
+        text = after_cut(*['F.Rows (Red) (1) := 1'] * count, '--# check True', declared=frames, seen='F = F')
+        yield accepted('nodes_of_10_parts.adb', text, 31) if count == 10 else too_large('nodes_of_11_parts.adb', text)
 
 
 def runs_of_parts():
@@ -7851,7 +7873,7 @@ GROUPS = (form, relations, simplifier, numbers, places, words, layout, comments,
           universal_powers_in_annotations, checks_of_universal_powers, conditions_of_enumerations, flow_of_types, levels_of_declarations, syntax_of_declarations,
           syntax_of_arrays, syntax_of_records, breaches_of_declarations, array_types, record_types, uses_of_composites, flow_of_composites,
           conditions_of_composites, runs_of_composites, syntax_of_parts, levels_of_parts, rules_of_parts, indexes_of_parts, parts_in_order, flow_of_parts,
-          attributes_of_arrays, conditions_of_parts, parts_that_close, runs_of_parts, functions_of_types, conditions_of_functions, flow_of_functions, syntax_of_functions,
+          attributes_of_arrays, conditions_of_parts, parts_that_close, nodes_of_parts, runs_of_parts, functions_of_types, conditions_of_functions, flow_of_functions, syntax_of_functions,
           initial_values, values_of_choices, rules_of_choices, conditions_of_cases, flow_of_cases, syntax_of_cases,
           places_of_checks, syntax_of_checks, syntax_of_predicates, cut_and_spoiled, rules_of_predicates, flow_of_checks,
           conditions_of_annotations, places_of_assertions, rules_of_assertions, facts_after_cuts, order_of_cuts,
