@@ -1,15 +1,12 @@
 -- Terms of expressions, where a value is static and where none is.
-use Rattle.std.proofs.Common.{◌≡◌, Bool, true, false, if◌then◌else◌, ℤ, pos, Option, Some, None, option_map, Ok, Err, refl, sym, ap, ap₂, ◌∙◌}
+use Rattle.std.proofs.Common.{◌≡◌, Bool, true, false, if◌then◌else◌, ℤ, pos, Option, Some, None, Ok, Err, refl, sym, ap, ◌∙◌}
 use Rattle.std.specs.Prelude.{⊤}
-use Rattle.std.proofs.lemmas.Bool.{and_parts}
 use Rattle.spx_text.specs.declared.place.Place.{Place}
 use Rattle.spx_tree.specs.declared.expression.Identifier.{Identifier}
 use Rattle.spx_tree.specs.declared.expression.InfixOp.{InfixOp}
 use Rattle.spx_tree.specs.declared.expression.MemberOp.{MemberOp}
 use Rattle.spx_tree.specs.declared.expression.PrefixOp.{PrefixOp}
 use Rattle.spx_core.specs.declared.entity.BaseType.{BaseType}
-use Rattle.spx_core.specs.declared.entity.Class.{Class}
-use Rattle.spx_core.specs.declared.entity.Class.TheVariants as class
 use Rattle.spx_core.specs.declared.entity.Object.{Object}
 use Rattle.spx_core.specs.declared.entity.VarId.{VarId}
 use Rattle.spx_core.specs.declared.name.CoreName.{CoreName}
@@ -24,12 +21,12 @@ use Rattle.spx_core.specs.declared.part.Indexing.{Indexing}
 use Rattle.spx_core.specs.declared.part.Selection.{Selection}
 use Rattle.spx_core.specs.declared.rule.ExprType.{ExprType}
 use Rattle.spx_core.specs.declared.rule.ExprType.TheVariants.{Of}
-use Rattle.spx_core.specs.declared.rule.RuleName.TheVariants.{N3, N10, N18}
-use Rattle.spx_core.specs.Types.{has_numbers, has_parts, has_truths, is_parted, is_true, is_typed_at}
-use Rattle.spx_core.specs.Judged.{Judged, ◌>>=◌, application, array_attribute, attribute_of, element, expr_step, has_end, indexed, judged, keeps, named_object, selected, typing}
+use Rattle.spx_core.specs.declared.rule.RuleName.TheVariants.{N10, N18}
+use Rattle.spx_core.specs.Types.{is_parted, is_typed_at}
+use Rattle.spx_core.specs.Judged.{Judged, ◌>>=◌, application, attribute_of, element, expr_step, indexed, judged, keeps, named_object, selected, typing}
 use Rattle.spx_core.specs.declared.rule.Typing.{Typing}
 use Rattle.spx_core.specs.Uses.{variable_of}
-use Rattle.spx_core.proofs.Callers.Expressions.{fold-ArrayAttribute, fold-Element, fold-Entry, fold-Faulty, fold-Number, fold-Parenthesized, fold-Selected, induct}
+use Rattle.spx_core.proofs.Callers.Expressions.{fold-Element, fold-Entry, fold-Faulty, fold-Number, fold-Parenthesized, fold-Selected, induct}
 use Rattle.spx_term.specs.declared.term.Term.{Term}
 use Rattle.spx_term.specs.declared.term.Term.TheVariants.{Number, Infix}
 use Rattle.spx_term.specs.declared.value.Value.{Value}
@@ -37,7 +34,7 @@ use Rattle.spx_term.specs.declared.value.Value.TheVariants as value
 use Rattle.spx_term.specs.Folding.{static_term}
 use Rattle.spx_meaning.specs.Evaluation.{term_op}
 use Rattle.spx_meaning.specs.Literals.{literal, literal_in, static_in}
-use Rattle.spx_meaning.proofs.Callers.Literals.{implicit_literal}
+use Rattle.spx_meaning.proofs.Callers.Literals.{end_literal, implicit_literal}
 use Rattle.spx_formula.specs.Terms.{element_term, end_term, field_term, first_term, last_term, literal_or, mapped_term, member_term, moved_term, named, signed_term, term_with, term_with-Applied, term_with-ArrayAttribute, term_with-Attribute, term_with-Element, term_with-Entry, term_with-Faulty, term_with-Implicit, term_with-InRange, term_with-InType, term_with-Infix, term_with-Name, term_with-Number, term_with-Parenthesized, term_with-Prefix, term_with-Selected}
 use Rattle.spx_formula.specs.Functions.{shift_in}
 
@@ -107,37 +104,6 @@ element_literal a place i x = ap literal_in (fold-Element expr_step a place i x)
 
 pub field_literal : (a : CoreExpr) (field : Identifier) (x : Selection) → literal (expr.Selected a field x) ≡ None
 field_literal a field x = ap literal_in (fold-Selected expr_step a field x) ∙ no_field x (judged a)
-
--- the index of an array has numbers for its values, so that a static end is one
-numbers_alone : (c : Class) → has_numbers c ≡ true → (has_truths c ≡ false) × (has_parts c ≡ false)
-numbers_alone class.Integer is = (refl, refl)
-numbers_alone class.Boolean is = absurd cc
-numbers_alone class.Enumeration is = (refl, refl)
-numbers_alone class.Composite is = absurd cc
-
-only_if : (b : Bool) (n : ℤ) (s : Value) → option_map (λ (m : ℤ). value.Number m) (if b then Some n else None) ≡ Some s → s ≡ value.Number n
-only_if true n s e = let is : Some (value.Number n) ≡ Some s = e in cc
-only_if false n s e = absurd cc
-
-end_number : (base : BaseType) (b : Bool) (n : ℤ) (s : Value) → has_numbers base.class ≡ true → static_in (Of base) (if b then Some n else None) ≡ Some s → s ≡ value.Number n
-end_number base b n s is e =
-    let alone = numbers_alone base.class is in
-    only_if b n s (sym (ap₂ (λ truths parted. if parted then None else option_map (λ (m : ℤ). if truths then value.Truth (is_true m) else value.Number m) (if b then Some n else None)) alone.0 alone.1) ∙ e)
-
-end_in : (x : ArrayEnds) (designator : Identifier) (j : Judged Typing) (s : Value) → literal_in (j >>= λ t. array_attribute x designator t) ≡ Some s → s ≡ value.Number (attribute_of x.index designator.text)
-end_in x designator (Err breach) s h = absurd cc
-end_in x designator (Ok t) s h = kept (is_typed_at x.array t.of) (has_end x.index designator.text) refl h
-  where
-    kept : (typed has : Bool) → has_end x.index designator.text ≡ has
-        → literal_in (keeps N10 t.place typed >>= λ _. keeps N3 t.place has >>= λ _. Ok (typing (Of x.index.base) (if x.is_static then Some (attribute_of x.index designator.text) else None) t.place)) ≡ Some s
-        → s ≡ value.Number (attribute_of x.index designator.text)
-    kept false has is h = absurd cc
-    kept true false is h = absurd cc
-    kept true true is h = end_number x.index.base x.is_static (attribute_of x.index designator.text) s (and_parts _ _ is).0 h
-
--- a static attribute of an array is the bound of its index
-pub end_literal : (a : CoreExpr) (designator : Identifier) (x : ArrayEnds) (s : Value) → literal (expr.ArrayAttribute a designator x) ≡ Some s → s ≡ value.Number (attribute_of x.index designator.text)
-end_literal a designator x s is = end_in x designator (judged a) s (sym (ap literal_in (fold-ArrayAttribute expr_step a designator x)) ∙ is)
 
 -- a name that denotes nothing is not static
 pub faulty_literal : (faulty : FaultyName) → literal (expr.Faulty faulty) ≡ None

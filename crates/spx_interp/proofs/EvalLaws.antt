@@ -1,32 +1,29 @@
 -- Evaluation of static expressions.
-use Rattle.std.proofs.Common.{◌≡◌, ◌&&◌, ℕ, ℤ, Bool, true, false, Option, Some, None, Ok, Err, refl, sym, ap, ◌∙◌}
+use Rattle.std.proofs.Common.{◌≡◌, ℕ, ℤ, Bool, true, false, Option, Some, None, Ok, Err, refl, sym, ap, ◌∙◌}
 use Rattle.std.specs.Prelude.{if◌then◌else◌}
 use Rattle.spx_text.specs.declared.place.Place.{Place}
 use Rattle.spx_tree.specs.declared.expression.Identifier.{Identifier}
 use Rattle.spx_core.specs.declared.expression.CoreExpr.{CoreExpr}
-use Rattle.spx_core.specs.declared.expression.CoreExpr.TheVariants.{Number, Entry, Parenthesized, Element, Selected, ArrayAttribute, Faulty}
-use Rattle.spx_core.specs.declared.entity.Class.{Class}
-use Rattle.spx_core.specs.declared.entity.Class.TheVariants as class
+use Rattle.spx_core.specs.declared.expression.CoreExpr.TheVariants.{Number, Entry, Parenthesized, Element, Selected, Faulty}
 use Rattle.spx_core.specs.declared.name.CoreName.{CoreName}
 use Rattle.spx_core.specs.declared.name.FaultyName.{FaultyName}
-use Rattle.spx_core.specs.declared.part.ArrayEnds.{ArrayEnds}
 use Rattle.spx_core.specs.declared.part.Indexing.{Indexing}
 use Rattle.spx_core.specs.declared.part.Selection.{Selection}
 use Rattle.spx_core.specs.declared.rule.ExprType.{ExprType}
 use Rattle.spx_core.specs.declared.rule.ExprType.TheVariants.{Of}
 use Rattle.spx_core.specs.declared.rule.Typing.{Typing}
-use Rattle.spx_core.specs.Judged.{Judged, ◌>>=◌, array_attribute, attribute_of, expr_step, indexed, is_attribute, judged, keeps, named_object, typing}
-use Rattle.spx_core.specs.Types.{has_numbers, has_parts, has_truths, is_parted, is_true, is_typed_at}
-use Rattle.spx_core.specs.declared.rule.RuleName.TheVariants.{N3, N10, N18}
-use Rattle.spx_core.proofs.Callers.Expressions.{induct, fold-Number, fold-Entry, fold-Parenthesized, fold-Element, fold-Selected, fold-ArrayAttribute, fold-Faulty}
+use Rattle.spx_core.specs.Judged.{Judged, ◌>>=◌, expr_step, indexed, judged, keeps, named_object, typing}
+use Rattle.spx_core.specs.Types.{is_parted, is_typed_at}
+use Rattle.spx_core.specs.declared.rule.RuleName.TheVariants.{N10, N18}
+use Rattle.spx_core.proofs.Callers.Expressions.{induct, fold-Number, fold-Entry, fold-Parenthesized, fold-Element, fold-Selected, fold-Faulty}
 use Rattle.spx_term.specs.declared.value.Value.{Value}
 use Rattle.spx_term.specs.declared.value.Value.TheVariants as value
-use Rattle.spx_meaning.specs.Evaluation.{Answer, Gives, with_value, eval, end_value, eval_forms, eval-ArrayAttribute, eval-Number, eval-Name, eval-Entry, eval-Attribute, eval-Applied, eval-Parenthesized, eval-Implicit, eval-Prefix, eval-Infix, eval-InType, eval-InRange}
+use Rattle.spx_meaning.specs.Evaluation.{Answer, Gives, with_value, eval, eval_forms, eval-ArrayAttribute, eval-Number, eval-Name, eval-Attribute, eval-Applied, eval-Parenthesized, eval-Implicit, eval-Prefix, eval-Infix, eval-InType, eval-InRange}
 use Rattle.spx_meaning.specs.Frames.{Frame}
 use Rattle.spx_meaning.specs.Literals.{literal, literal_in}
 use Rattle.spx_meaning.specs.Stores.{Store}
 use Rattle.spx_meaning.proofs.Callers.Annotations.{same_value}
-use Rattle.spx_meaning.proofs.Callers.Literals.{implicit_literal}
+use Rattle.spx_meaning.proofs.Callers.Literals.{end_literal, implicit_literal}
 use Rattle.spx_interp.specs.declared.stop.Stop.{Stop}
 use Rattle.spx_interp.specs.declared.stop.Stop.TheVariants as stop
 use Rattle.spx_interp.specs.Results.{Answers}
@@ -73,31 +70,6 @@ literal-Number n place = ap literal_in (fold-Number expr_step n place)
 literal-Faulty : (faulty : FaultyName) → literal (Faulty faulty) ≡ None
 literal-Faulty faulty = ap literal_in (fold-Faulty expr_step faulty)
 
--- a value of a type that has an order is a number
-number_in : (c : Class) (n : ℤ) (y : Value) → has_numbers c ≡ true → (if has_parts c then None else Some (if has_truths c then value.Truth (is_true n) else value.Number n)) ≡ Some y → value.Number n ≡ y
-number_in class.Integer n y has is = same_value (value.Number n) y is
-number_in class.Boolean n y has is = absurd cc
-number_in class.Enumeration n y has is = same_value (value.Number n) y is
-number_in class.Composite n y has is = absurd cc
-
--- so is a bound of an index that is judged to be static
-end_in : (x : ArrayEnds) (n : ℤ) (place : Place) (fits has of_word is_static : Bool) (y : Value) → has_numbers x.index.base.class ≡ has
-    → literal_in (keeps N10 place fits >>= λ _. keeps N3 place (has && of_word) >>= λ _. Ok (typing (Of x.index.base) (if is_static then Some n else None) place)) ≡ Some y → value.Number n ≡ y
-end_in x n place false has of_word is_static y numbers is = absurd cc
-end_in x n place true false of_word is_static y numbers is = absurd cc
-end_in x n place true true false is_static y numbers is = absurd cc
-end_in x n place true true true false y numbers is = absurd (let none : None ≡ Some y = sym (no_value (Of x.index.base) place) ∙ is in cc)
-end_in x n place true true true true y numbers is = number_in x.index.base.class n y numbers is
-
--- a static attribute of an array stands for that bound
-literal-ArrayAttribute : (a : CoreExpr) (designator : Identifier) (x : ArrayEnds) (y : Value) → literal (ArrayAttribute a designator x) ≡ Some y → end_value x designator ≡ y
-literal-ArrayAttribute a designator x y is = of_prefix (judged a) (sym (ap literal_in (fold-ArrayAttribute expr_step a designator x)) ∙ is)
-  where
-    of_prefix : (j : Judged Typing) → literal_in (j >>= λ t. array_attribute x designator t) ≡ Some y → end_value x designator ≡ y
-    of_prefix (Err breach) is = absurd cc
-    of_prefix (Ok t) is =
-        end_in x (attribute_of x.index designator.text) t.place (is_typed_at x.array t.of) (has_numbers x.index.base.class) (is_attribute designator.text) x.is_static y refl is
-
 -- a static expression has its value
 pub eval_static : (f : Frame) (n : ℕ) (s : Store) (e : CoreExpr) (x : Value) → literal e ≡ Some x → eval f n s e ≡ Gives x
 eval_static f n s = induct (λ e. (x : Value) → literal e ≡ Some x → eval f n s e ≡ Gives x) (record {
@@ -114,7 +86,7 @@ eval_static f n s = induct (λ e. (x : Value) → literal e ≡ Some x → eval 
   in_range = λ op place a low high first second third x is. rw (eval-InRange f n s op place a low high, is);
   element = λ a place i part first second x is. absurd (let none : None ≡ Some x = sym (literal-Element a place i part) ∙ is in cc);
   selected = λ a field part first x is. absurd (let none : None ≡ Some x = sym (literal-Selected a field part) ∙ is in cc);
-  array_attribute = λ a designator ends first x is. rw (eval-ArrayAttribute f n s a designator ends) (ap Gives (literal-ArrayAttribute a designator ends x is));
+  array_attribute = λ a designator ends first x is. rw (eval-ArrayAttribute f n s a designator ends) (ap Gives (sym (end_literal a designator ends x is)));
   faulty = λ faulty x is. absurd (let none : None ≡ Some x = sym (literal-Faulty faulty) ∙ is in cc);
 })
 
