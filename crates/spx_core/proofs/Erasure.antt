@@ -120,6 +120,10 @@ kept_names region meaning position [] = refl
 kept_names region meaning position (name ∷ names) =
     ap (λ rest. name ∷ rest) (kept_names (declaring region (defining region (meant_at meaning position) name)) meaning (position + 1) names)
 
+-- the parts of a name are what was written
+pub kept_all : (scene : Scene) (regions : Regions) (parts : List Expr) → map erased_expr (map (resolved_in scene regions) parts) ≡ parts
+kept_all scene regions parts = kept_each erased_expr (resolved_in scene regions) (kept_in scene regions) parts
+
 -- ---- choices and annotations
 
 erased_stmt_at : (y : CoreStmt-F CoreStmt CoreAlternative CoreArm) → erased_stmt (roll-CoreStmt y) ≡ erased_stmt_step (map-CoreStmt CoreStmt CoreAlternative CoreArm Stmt Alternative Arm erased_stmt erased_alternative erased_arm y)

@@ -18,7 +18,8 @@ fn is_first(designator: &Text) -> bool
     designator.as_bytes().eq_ignore_ascii_case(b"first")
 }
 
-fn is_attribute(designator: &Text) -> bool
+/// Whether it is `First` or `Last`.
+pub fn is_attribute(designator: &Text) -> bool
     ensures { result ≡ rules.is_attribute designator.now }
 {
     is_first(designator) || designator.as_bytes().eq_ignore_ascii_case(b"last")
