@@ -4,7 +4,7 @@ ghost use Rattle.std.specs.Option.{option_copied};
 ghost use Rattle.spx_core.specs.declared.entity.Entity.TheVariants as entity;
 ghost use Rattle.spx_core.specs.declared.expression.CoreExpr.TheVariants as expr;
 ghost use Rattle.spx_core.specs.NamedParts.{along, ends_at, form_in};
-ghost use Rattle.spx_core.specs.Resolved.{array_end, attributed, entry_of, fault_of_type, index_of, value_at, value_of_path, value_of_variable, with_index};
+ghost use Rattle.spx_core.specs.Resolved.{array_end, attributed, entry_of, fault_of_type, index_of, value_at, value_of_other, value_of_path, value_of_variable, with_index};
 ghost use Rattle.spx_core.specs.WrittenExpressions.{erased_expr};
 ghost use Rattle.spx_naming.specs.Found.{answer, applied_value, begins_with_entry, found_along, object_value, opened, other_value, plain_value, root_of, shown};
 
@@ -399,8 +399,8 @@ fn fault_of_type(denoted: Option<Entity>, steps: &[NameStep]) -> NameFault
     }
 }
 
-/// The value of a name that begins with no variable: it has no parts. Of a type there are attributes and functions.
-fn value_of_other(
+/// The same, or why the name denotes nothing.
+fn other_found(
     alloc: Global,
     scene: &Scene<'_>,
     denoted: Option<Entity>,
@@ -414,6 +414,19 @@ fn value_of_other(
         Some(value) => Ok(Found::Value(value)),
         None => Ok(Found::Fault(fault)),
     }
+}
+
+/// The value of a name that begins with no variable: it has no parts. Of a type there are attributes and functions.
+fn value_of_other(
+    alloc: Global,
+    scene: &Scene<'_>,
+    denoted: Option<Entity>,
+    path: &Path,
+    parts: Parts,
+) -> Result<Found, AllocError>
+    ensures { IfOk result (λ r. shown (root_of denoted path.now) path.now parts r ≡ value_of_other scene.now (root_of denoted path.now) path.now parts) }
+{
+    other_found(alloc, scene, denoted, path, parts)
 }
 
 /// What a name denotes whose first identifier denotes this.
