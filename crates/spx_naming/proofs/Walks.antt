@@ -10,6 +10,7 @@ use Rattle.spx_core.specs.declared.entity.Entity.TheVariants as entity
 use Rattle.spx_core.specs.declared.entity.Subtype.{Subtype}
 use Rattle.spx_core.specs.declared.entity.TypeId.{TypeId}
 use Rattle.spx_core.specs.declared.expression.CoreExpr.{CoreExpr}
+use Rattle.spx_core.specs.declared.expression.CoreExpr.TheVariants as expr
 use Rattle.spx_core.specs.declared.name.CoreName.{CoreName}
 use Rattle.spx_core.specs.declared.name.NameFault.{NameFault}
 use Rattle.spx_core.specs.declared.part.PartStep.{PartStep}
@@ -17,7 +18,7 @@ use Rattle.spx_core.specs.declared.program.TypeForm.{TypeForm}
 use Rattle.spx_core.specs.declared.program.TypeForm.TheVariants.{Array, Record}
 use Rattle.spx_core.specs.declared.program.TypeRow.{TypeRow}
 use Rattle.spx_core.specs.NamedParts.{Along, OneStep, after_step, along, ends_at, followed, form_in, going, part_step}
-use Rattle.spx_core.specs.Resolved.{Scene, fault_of_type, or_faulty, step_in_context, target_at, target_of, value_of_other, value_of_path, value_of_variable}
+use Rattle.spx_core.specs.Resolved.{Scene, entry_of, fault_along, fault_of_type, or_faulty, part_value, step_in_context, target_at, target_of, value_of_other, value_of_path, value_of_variable}
 use Rattle.spx_naming.specs.declared.steps.Part.{Part}
 use Rattle.spx_naming.specs.declared.steps.Part.TheVariants.{Element, Field}
 use Rattle.spx_naming.specs.Found.{answer, begins_with_entry, found_along, leading, object_value, other_value, shown, target_with, way_along}
@@ -64,7 +65,7 @@ module _ (scene : Scene) (a : CoreExpr) (of : Subtype) (steps : List NameStep) (
 -- ---- targets
 
 way_taken : (types : List TypeRow) (before : List PartStep) (s : PartStep) (x : Along) → way_along types before (after_step s x) ≡ way_along types (before ++ step_in_context s ∷ []) x
-way_taken types before s x = ap (λ way. leading _ way x.rest x.parts) (sym (append_assoc before (step_in_context s ∷ []) (map step_in_context x.way)))
+way_taken types before s x = ap (λ way. leading (fault_along types x) way x.rest x.parts) (sym (append_assoc before (step_in_context s ∷ []) (map step_in_context x.way)))
 
 module _ (types : List TypeRow) (before : List PartStep) (of : Subtype) (steps : List NameStep) (i : ℕ) (parts parts' : List CoreExpr) (s : NameStep) (h : i < length steps) (e : s ≡ get_or steps i s) where
   -- one more step
@@ -109,8 +110,12 @@ variable_found scene root of steps parts on_entry a path = shown root path parts
 
 pub variable_shown : (scene : Scene) (root : CoreName) (of : Subtype) (name : Identifier) (steps : List NameStep) (parts : List CoreExpr)
     → variable_found scene root of steps parts (begins_with_entry steps) (object_value scene (begins_with_entry steps) root) (path_of name steps) ≡ value_of_variable scene root of (path_of name steps) parts
-variable_shown scene root of name (step.Entry ∷ steps) parts = answer_shown root _ parts _ _
-variable_shown scene root of name steps parts = answer_shown root _ parts _ _
+variable_shown scene root of name (step.Entry ∷ steps) parts =
+    let x = along scene.types of steps parts in
+    answer_shown root (path_of name (step.Entry ∷ steps)) parts (fault_along scene.types x) (part_value scene (entry_of scene.items root) x)
+variable_shown scene root of name steps parts =
+    let x = along scene.types of steps parts in
+    answer_shown root (path_of name steps) parts (fault_along scene.types x) (part_value scene (expr.Name root) x)
 
 pub other_shown : (scene : Scene) (root : CoreName) (name : Identifier) (steps : List NameStep) (parts : List CoreExpr)
     → shown root (path_of name steps) parts (answer (fault_of_type root.entity steps) (other_value scene root steps parts)) ≡ value_of_other scene root (path_of name steps) parts
@@ -120,4 +125,6 @@ other_shown scene root name (step.Attribute designator ∷ []) [] = refl
 other_shown scene root name (step.Applied place (Positional (suc zero)) ∷ []) (operand ∷ []) = refl
 other_shown scene root name (step.Attribute designator ∷ step.Applied place (Positional (suc zero)) ∷ []) (operand ∷ []) = refl
 other_shown scene root name (step.Qualified place ∷ []) (operand ∷ []) = refl
-other_shown scene root name steps parts = refl
+other_shown scene root name steps [] = refl
+other_shown scene root name steps (operand ∷ []) = refl
+other_shown scene root name steps (operand ∷ another ∷ parts) = refl

@@ -18,4 +18,4 @@ returns c =
     IfOk-weaker c.new-2.result _ _
     (λ sub is.
     subst (λ s. (s ≡ resolved_sub c.args.name (before_in before) c.args.subprogram.now) × (after.vars ≡ before.vars ++ own_vars s) × (after.types ≡ before.types ++ own_types s))
-    (sym (rw (c.into_inner.ensures, c.into_inner-2.ensures, c.into_inner-body.ensures, c.into_inner-inner.ensures) at is)) (rw c.get.ensures at made)) c.new-2.ensures
+    (sym (rw (c.into_inner.ensures, c.into_inner-body.ensures, c.into_inner-inner.ensures) at is)) (rw c.get.ensures at made)) c.new-2.ensures
