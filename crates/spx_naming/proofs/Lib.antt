@@ -1,6 +1,8 @@
 pub mod Results
+pub mod Taken
 pub mod Declared
 pub mod InOrder
+pub mod Walks
 pub mod StatementForms
 pub mod Declarations
 pub mod Subprograms
