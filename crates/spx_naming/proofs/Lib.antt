@@ -7,3 +7,5 @@ pub mod StatementForms
 pub mod Declarations
 pub mod Subprograms
 pub mod Programs
+pub mod MembershipForms
+pub mod BodyForms

@@ -1,6 +1,6 @@
 -- What a name denotes, step by step.
 use Rattle.std.proofs.Common.{◌≡◌, ℕ, ◌+◌, ◌<◌, zero, suc, Bool, true, false, if◌then◌else◌, List, [], ◌∷◌, ◌++◌, length, map, drop, get_or, Option, Some, None, refl, sym, ap, ap₂, ◌∙◌, append_assoc}
-use Rattle.spx_tree.specs.declared.expression.Arguments.TheVariants.{Positional}
+use Rattle.spx_tree.specs.declared.expression.Arguments.TheVariants.{Named, Positional}
 use Rattle.spx_tree.specs.declared.expression.Identifier.{Identifier}
 use Rattle.spx_tree.specs.declared.expression.NameStep.{NameStep}
 use Rattle.spx_tree.specs.declared.expression.NameStep.TheVariants as step
@@ -125,6 +125,29 @@ other_shown scene root name (step.Attribute designator ∷ []) [] = refl
 other_shown scene root name (step.Applied place (Positional (suc zero)) ∷ []) (operand ∷ []) = refl
 other_shown scene root name (step.Attribute designator ∷ step.Applied place (Positional (suc zero)) ∷ []) (operand ∷ []) = refl
 other_shown scene root name (step.Qualified place ∷ []) (operand ∷ []) = refl
+other_shown scene root name (step.Applied place (Positional (suc zero)) ∷ []) [] = refl
+other_shown scene root name (step.Attribute designator ∷ step.Applied place (Positional (suc zero)) ∷ []) [] = refl
+other_shown scene root name (step.Qualified place ∷ []) [] = refl
 other_shown scene root name steps [] = refl
+other_shown scene root name [] (operand ∷ []) = refl
+other_shown scene root name (step.Entry ∷ []) (operand ∷ []) = refl
+other_shown scene root name (step.Attribute designator ∷ []) (operand ∷ []) = refl
+other_shown scene root name (step.Selected field ∷ []) (operand ∷ []) = refl
+other_shown scene root name (step.Applied place (Named formals) ∷ []) (operand ∷ []) = refl
+other_shown scene root name (step.Applied place (Positional zero) ∷ []) (operand ∷ []) = refl
+other_shown scene root name (step.Applied place (Positional (suc (suc n))) ∷ []) (operand ∷ []) = refl
+other_shown scene root name (step.Attribute designator ∷ step.Selected field ∷ []) (operand ∷ []) = refl
+other_shown scene root name (step.Attribute designator ∷ step.Attribute other ∷ []) (operand ∷ []) = refl
+other_shown scene root name (step.Attribute designator ∷ step.Applied place (Named formals) ∷ []) (operand ∷ []) = refl
+other_shown scene root name (step.Attribute designator ∷ step.Applied place (Positional zero) ∷ []) (operand ∷ []) = refl
+other_shown scene root name (step.Attribute designator ∷ step.Applied place (Positional (suc (suc n))) ∷ []) (operand ∷ []) = refl
+other_shown scene root name (step.Attribute designator ∷ step.Qualified place ∷ []) (operand ∷ []) = refl
+other_shown scene root name (step.Attribute designator ∷ step.Entry ∷ []) (operand ∷ []) = refl
 other_shown scene root name steps (operand ∷ []) = refl
+other_shown scene root name [] (operand ∷ another ∷ parts) = refl
+other_shown scene root name (step.Entry ∷ []) (operand ∷ another ∷ parts) = refl
+other_shown scene root name (step.Attribute designator ∷ []) (operand ∷ another ∷ parts) = refl
+other_shown scene root name (step.Applied place (Positional (suc zero)) ∷ []) (operand ∷ another ∷ parts) = refl
+other_shown scene root name (step.Attribute designator ∷ step.Applied place (Positional (suc zero)) ∷ []) (operand ∷ another ∷ parts) = refl
+other_shown scene root name (step.Qualified place ∷ []) (operand ∷ another ∷ parts) = refl
 other_shown scene root name steps (operand ∷ another ∷ parts) = refl

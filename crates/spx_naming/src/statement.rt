@@ -124,12 +124,13 @@ fn resolve_assignment(
     alloc: Global,
     target: &Name,
     value: &Expr,
-    types: &[TypeRow],
+    scene: &Scene<'_>,
     region: &Region,
     outer: &Scope<'_>,
 ) -> Result<CoreStmt, AllocError>
-    ensures { IfOk result (λ r. r ≡ assignment_to types.now (region.now ∷ seen outer.now) (resolved_target types.now (region.now ∷ seen outer.now) target.now) value.now) }
+    ensures { IfOk result (λ r. r ≡ assignment_to scene.now.types (region.now ∷ seen outer.now) (resolved_target scene.now.types (region.now ∷ seen outer.now) target.now) value.now) }
 {
+    let types = scene.types();
     let scope = Scope::inside(region, outer);
     let target = resolve_target(alloc, target, types, &scope)?;
     let value = resolve_right(alloc, types, target.get(), value, &scope)?;
@@ -156,15 +157,16 @@ fn resolve_exit(
     alloc: Global,
     place: Place,
     condition: &Option<Boxed<Expr>>,
-    types: &[TypeRow],
+    scene: &Scene<'_>,
     region: &Region,
     outer: &Scope<'_>,
 ) -> Result<CoreStmt, AllocError>
-    ensures { IfOk result (λ r. r ≡ stmt.Exit place (option_map (resolved_condition (in_code types.now) (region.now ∷ seen outer.now)) condition.now)) }
+    ensures { IfOk result (λ r. r ≡ stmt.Exit place (option_map (resolved_condition (in_code scene.now.types) (region.now ∷ seen outer.now)) condition.now)) }
 {
     match condition {
         Some(condition) => {
-            let condition = resolve_inside(alloc, condition.get(), types, region, outer)?;
+            let condition = condition.get();
+            let condition = resolve_inside(alloc, condition, scene.types(), region, outer)?;
             Ok(CoreStmt::Exit(place, Some(condition)))
         }
         None => Ok(CoreStmt::Exit(place, None)),
@@ -185,8 +187,7 @@ fn resolve_stmt(
     match stmt {
         Stmt::Null(place) => Ok(CoreStmt::Null(*place)),
         Stmt::Assignment(target, value) => {
-            let types = scene.types();
-            resolve_assignment(alloc, target.get(), value.get(), types, region, outer)
+            resolve_assignment(alloc, target.get(), value.get(), scene, region, outer)
         }
         Stmt::If(arms, otherwise, closing) => {
             let arms = arms.get().as_slice();
@@ -217,7 +218,7 @@ fn resolve_stmt(
             resolve_assertion(alloc, *kind, *place, condition, scene, region, outer)
         }
         Stmt::Exit(place, condition) => {
-            resolve_exit(alloc, *place, condition, scene.types(), region, outer)
+            resolve_exit(alloc, *place, condition, scene, region, outer)
         }
     }
 }

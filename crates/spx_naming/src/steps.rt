@@ -19,6 +19,10 @@ use sqlite_items::{Boxed, Items, at};
 use std::alloc::{AllocError, Global};
 use std::marker::Model;
 
+/// The most steps of one name to parts. Each is a level of the expression, and indexes have names in them, so that calls which go
+/// down an expression have room for all. A name with more steps counts as one for which memory runs out.
+pub const MOST_STEPS: usize = 20;
+
 /// Resolved expressions of a name, of which the first is taken next. Contracts see them in their order.
 #[derive(Drop)]
 pub struct Parts {

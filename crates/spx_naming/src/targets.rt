@@ -5,7 +5,7 @@ ghost use Rattle.spx_core.specs.Resolved.{target_of};
 ghost use Rattle.spx_core.specs.WrittenExpressions.{erased_expr};
 ghost use Rattle.spx_naming.specs.Found.{leading, root_of, target_with, way_along};
 
-use crate::steps::{Parts, fault_at, form_in, part_step};
+use crate::steps::{MOST_STEPS, Parts, fault_at, form_in, part_step};
 use crate::values::{faulty_name, root_name};
 use spx_core::{Entity, FaultyName, NameFault, PartStep, Subtype, Target, TypeRow};
 use spx_tree::{Expr, NameStep, Path};
@@ -62,6 +62,9 @@ fn way_along(
         let Some(part) = part_step(form, of.base.id, &steps[at], &mut parts) else {
             return Ok(way_at(types, way, of, &steps[at..], parts));
         };
+        if at >= MOST_STEPS {
+            return Err(AllocError);
+        }
         of = part.subtype();
         way.push(part.step(alloc)?)?;
     }

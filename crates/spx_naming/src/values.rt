@@ -9,7 +9,7 @@ ghost use Rattle.spx_core.specs.WrittenExpressions.{erased_expr};
 ghost use Rattle.spx_naming.specs.Found.{answer, applied_value, begins_with_entry, found_along, object_value, opened, other_value, plain_value, root_of, shown};
 
 use crate::scene::Scene;
-use crate::steps::{Parts, fault_at, form_in, one_argument, part_step};
+use crate::steps::{MOST_STEPS, Parts, fault_at, form_in, one_argument, part_step};
 use spx_core::{
     ArrayEnds, CoreExpr, CoreFunction, CoreName, Entity, FaultyName, FunctionForm, NameFault,
     Subtype, TypeForm, TypeId, TypeRow,
@@ -164,6 +164,9 @@ fn found_along(
         let Some(part) = part_step(form, of.base.id, &steps[at], &mut parts) else {
             return found_at(alloc, scene, object, of, &steps[at..], parts);
         };
+        if at.saturating_sub(first) >= MOST_STEPS {
+            return Err(AllocError);
+        }
         of = part.subtype();
         object = part.value(alloc, object)?;
     }
