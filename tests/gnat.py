@@ -30,7 +30,7 @@ from typing import Optional
 
 import reading
 from random_texts import CONSTANT_NAMES, LOGICAL, PREDEFINED, PRODUCTS, RELATIONS, Declarer, Writer
-from reading import (BOOLEAN, DIVISIONS, EVERYWHERE, INTEGER, LONG_FIRST, LONG_LAST, SHORT_CIRCUIT, UNIVERSAL, Applied, Case, ConstantDeclaration, EnumerationDeclaration,
+from reading import (BOOLEAN, DIVISIONS, EVERYWHERE, INTEGER, LONG_FIRST, LONG_LAST, SHORT_CIRCUIT, UNIVERSAL, Case, ConstantDeclaration, EnumerationDeclaration,
                      Finding, For, Kind, Membership, Operation, Parenthesized, Parser, Place, Prefix, RangeDeclaration, Refused, Resolver, Scanner,
                      SubtypeDeclaration, TooManyTokens, TooNested, VariableDeclaration, fits, require, require_rules)
 from table import CASES, can_stand, entry
@@ -494,16 +494,16 @@ def compiled(subject, **options):
 
 # What GNAT says of a line where a rule is broken; of N12 and N13 also what it warns of.
 SAID = {
-    'N1': 'is undefined|cannot be used before end|not visible|unrecognized attribute',
+    'N1': 'is undefined|cannot be used before end|not visible|unrecognized attribute|no selector',
     'N2': 'conflicts with declaration',
     'N3': 'declared|subtype mark|subtype name|attribute|missing argument|procedure name|expected type|undefined|must be a variable|used before end|array type required|is not a|'
-          'invalid operand types|illegal operand|incompatible types',
+          'invalid operand types|illegal operand|incompatible types|invalid prefix|no selector|too many arguments|not allowed here|missing "[,;]"',
     'N5': 'expected|missing "end',
     'N10': 'expected|found|incompatible|invalid|not defined|illegal operand|no applicable operator|operand|exponent|universal|undefined',
     'N11': 'static',
     'N12': 'range|Constraint_Check|Constraint_Error|zero|raises|too large',
     'N13': 'range|bounds',
-    'N14': 'argument',
+    'N14': r'argument|subscript|call|parameters not permitted|missing "\)"',
     'N17': 'case value|choice',
     'U2': 'assignment to|must be a variable',
 }
@@ -600,7 +600,7 @@ def is_of_files(difference):
 STANDARD = tuple(('float character wide_character string wide_string duration ascii standard constraint_error program_error storage_error tasking_error '
                   'numeric_error short_integer short_short_integer long_integer long_long_integer short_float long_float long_long_float').split())
 # The attributes of types and variables that Ada has.
-ATTRIBUTES = tuple(('first last pos val succ pred base range size image value width min max valid address alignment wide_image wide_value '
+ATTRIBUTES = tuple(('first last length pos val succ pred base range size image value width min max valid address alignment wide_image wide_value '
                     'wide_width').split())
 
 
@@ -642,6 +642,42 @@ def is_other_attribute(difference):
     return not is_profiled
 
 
+def is_dimension(difference):
+    """An end of an array with the number of a dimension."""
+    tree = difference.inner()
+    if not difference.misses('N3') or not isinstance(tree, reading.Path) or len(tree.steps) < 2:
+        return False
+    end, dimension = tree.steps[-2:]
+    return end.form == "'" and end.name.word() in ('first', 'last') and dimension.form == '('
+
+
+def is_expanded(difference):
+    """A name of the procedure with the name of the procedure before it."""
+    entity = difference.walk().denoted(difference.inner().root) if difference.misses('N3') and isinstance(difference.inner(), reading.Path) else None
+    return bool(entity) and entity.sort == 'subprogram' and difference.inner().steps[0].form == '.'
+
+
+def is_order_of_arrays(difference):
+    """An order of arrays whose elements have an order."""
+    tree = difference.inner()
+    if not difference.misses('N10') or not isinstance(tree, Operation) or tree.operator not in RELATIONS:
+        return False
+    kinds = {difference.walk().kind_of(side) for side in (tree.left, tree.right)}
+    return len(kinds) == 1 and all(kind and kind.element and kind.element.kind.is_ordered() for kind in kinds)
+
+
+def is_end_in_a_declaration(difference):
+    """An end of an array variable, which is static in Ada; in a declaration it is not in the profile."""
+    ends = [tree for tree in nodes(difference.inner()) if isinstance(tree, reading.Step) and tree.form == "'" and tree.name.word() in ('first', 'last')]
+    return difference.misses('N11') and bool(ends)
+
+
+def is_of_a_name(difference):
+    """A name leads nowhere, and has an index that GNAT looks at before that. spx looks at the name first."""
+    tree = difference.inner()
+    return difference.misses('N1', 'N3', 'N14') and isinstance(tree, reading.Path) and any(step.parts for step in tree.steps) and bool(difference.messages)
+
+
 def is_of_truths(difference):
     """An order, a membership test, a range, a `case` or a `for` of truth values, which Ada has and the profile has not."""
     tree, walk = difference.inner(), difference.subject.walks and difference.walk()
@@ -661,10 +697,11 @@ def is_of_truths(difference):
 def is_conversion(difference):
     """A conversion to an enumeration type or to Boolean, of a value of that type: the profile has those of numbers only."""
     tree = difference.inner()
-    if not difference.misses('N10') or not isinstance(tree, Applied) or tree.designator or tree.is_qualified:
+    if not difference.misses('N10') or not isinstance(tree, reading.Path) or [step.form for step in tree.steps] != ['(']:
         return False
-    kind = difference.walk().denoted(tree.name).subtype.kind
-    return kind.values != 'numbers' and difference.walk().kind_of(tree.operand) is kind
+    entity, operand = difference.walk().denoted(tree.root), tree.steps[0].parts[0]
+    kind = entity.subtype.kind
+    return entity.sort == 'type' and kind.values != 'numbers' and difference.walk().kind_of(operand) is kind
 
 
 def is_type_choice(difference):
@@ -704,7 +741,7 @@ def is_longer(difference):
 
 def around(difference):
     """The expressions that have the breach in them, the innermost first, with their exact values."""
-    expressions = takewhile(lambda tree: isinstance(tree, (Operation, Prefix, Membership, Applied, Parenthesized)), difference.subject.broken())
+    expressions = takewhile(lambda tree: isinstance(tree, (Operation, Prefix, Membership, reading.Path, Parenthesized)), difference.subject.broken())
     return [difference.walk().exactly(tree) for tree in expressions]
 
 
@@ -843,7 +880,8 @@ def is_choice(difference):
     return is_settled(difference, is_choice)
 
 
-PROFILE = (is_annotation, is_later, is_of_types, is_of_files, is_in_standard, is_predefined, is_loop_parameter, is_overloaded, is_other_attribute, is_of_truths,
+PROFILE = (is_annotation, is_later, is_of_types, is_of_files, is_in_standard, is_predefined, is_loop_parameter, is_overloaded, is_other_attribute, is_dimension, is_expanded, is_order_of_arrays, is_end_in_a_declaration,
+           is_of_a_name, is_of_truths,
            is_conversion, is_type_choice, is_not_static, is_null_range, is_outside_parent, is_longer, is_part, is_wide, is_not_evaluated, is_too_large, is_outside, is_base,
            is_root)
 KNOWN = (is_position, is_choice)

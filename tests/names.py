@@ -11,7 +11,7 @@ import sys
 
 DOCUMENTS = ["README.md"] + ["docs/%s.md" % name for name in ("architecture", "claims", "contributing", "DECISIONS", "language", "proving")]
 # Names of the kit and of the system, and names with T or V for any type or variant.
-OTHERS = {"Updates", "into_iter", "nice", "renice", "fold-T", "fold-V", "out-T", "T-F", "T'Pos"}
+OTHERS = {"Updates", "into_iter", "nice", "renice", "fold-T", "fold-V", "out-T", "T-F", "T'Pos", "A'First"}
 NAME = r"[A-Za-z_][A-Za-z_0-9]*(?:['-][A-Za-z_0-9]+)*"
 FILE = r"[\w./-]+\.(?:rt|antt|py|sh|md|edit|adb)"
 

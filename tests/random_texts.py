@@ -61,7 +61,8 @@ PIECES = tuple(piece.encode('ascii') for piece in (
     '   for I in Integer range 1 .. X loop X := I; end loop;\n', ' I',
     'exit', 'exit;', ' exit when X > 0;', '   loop exit when X > 5; X := X + 1; end loop;\n', ' if X > 5 then exit; end if;',
     'array', 'record', 'of', 'end record', 'array (Integer) of', 'array (Integer) of Boolean', 'record P, Q : Integer; end record', ' P : Integer;', 'end record;',
-    '   type L is array (Natural) of Integer;\n', '   type R is record P : Integer; end record;\n', '   P, Q : R;\n', ' P = Q', '   P := Q;\n', 'P'))
+    '   type L is array (Natural) of Integer;\n', '   type R is record P : Integer; end record;\n', '   P, Q : R;\n', ' P = Q', '   P := Q;\n', 'P',
+    '.P', ' (1)', '(X)', '.', 'P.P', 'L (1)', '(1, 2)', '(P => 1)', "'First", "L'Last", '   L (1) := 1;\n', '   P.P := X;\n', '~.P', ' (1) (2)', "'("))
 # Bytes that are apt to end a lexeme, a line or a text.
 EDGES = b'\0\t\n\v\f\r -#0A_\x80\xa0\xff'
 
@@ -77,6 +78,8 @@ CONSTANT_NAMES = ('C', 'D', 'N', 'Top', 'Two', 'Least')
 # Names of fields, and of variables of array and record types.
 FIELD_NAMES = ('Left', 'Right', 'P', 'X', 'A', 'Inc', 'Red')
 WHOLE_NAMES = ('P', 'Q', 'R', 'L')
+# Steps of names that mostly lead nowhere.
+ODD_STEPS = ('.Z', '.P', '.Left', ' (1)', ' (0)', ' (1, 1)', ' (True)', ' (Red)', ' (X => 1)', ' (Z)', "'First", "'Last", "'Pos", "'Length", "'(1)", '~')
 BOUNDS = ((0, 10), (0, 9), (1, 5), (-5, 5), (5, 5), (0, 100), (-7, -2), (0, 2**31 - 1), (0, 2**31), (-2**31, 2**31 - 1), (-2**31 - 1, 0), (-2**31, 0),
           (-2**63, 2**63 - 1), (0, 2**63 - 1), (0, 2**40), (2**31, 2**31 + 5))
 ODD_BOUNDS = ((1, 0), (0, 2**63), (-2**63 - 1, 0), (10, 5), (2**64, 2**65))
@@ -127,13 +130,20 @@ class Declared:
     """What comes before the statements of a procedure: the declarations as they are written, and what they declare.
 
     A constant has a name, its base type, and its value; that of a named number is none. An array or record type, or a subtype
-    of one, has a name and its base type.
+    of one, has a name and its base type. A form has the type of the index and that of the elements, or the name of each field with
+    its type, by the base type.
     """
     lines: list = field(default_factory=list)
     types: list = field(default_factory=lambda: list(PREDEFINED))
     literals: dict = field(default_factory=dict)
     constants: list = field(default_factory=list)
     composites: list = field(default_factory=list)
+    forms: dict = field(default_factory=dict)
+
+    def base_of(self, mark):
+        """The base type of a type by its name, if there is one."""
+        bases = {found.name: found.base for found in self.types} | dict(self.composites)
+        return bases.get(mark)
 
     def own_types(self):
         """The types that are declared here."""
@@ -147,9 +157,10 @@ class Declared:
 class Declarer:
     """Makes declarations of types, subtypes and constants that mostly fit together."""
 
-    def __init__(self, chance, formals):
+    def __init__(self, chance, formals, is_small=False):
         self.random = chance
         self.formals = formals
+        self.is_small = is_small
         self.slips = chance.choice((0, 0, 0.03, 0.08))
         self.declared = Declared()
         self.free = {names: list(names) for names in (TYPE_NAMES, LITERAL_NAMES, CONSTANT_NAMES)}
@@ -159,6 +170,13 @@ class Declarer:
         forms = (self.range_type, self.enumeration, self.subtype, self.constant, self.named_numbers, self.composite)
         for _ in range(self.random.choice((1, 2, 3, 3, 4, 5, 6))):
             form = self.random.choices(forms, (28, 20, 22, 22, 8, 8))[0]
+            self.declared.lines.append(form())
+        return self.declared
+
+    def parts(self):
+        """Declarations of some types, and of array and record types over them."""
+        forms = [self.random.choice((self.range_type, self.enumeration, self.subtype)) for _ in range(self.random.choice((1, 2, 2)))]
+        for form in forms + [self.composite] * self.random.choice((1, 2, 2, 3)):
             self.declared.lines.append(form())
         return self.declared
 
@@ -248,24 +266,35 @@ class Declarer:
             parent, base = self.random.choice(self.declared.composites)
             line = f'subtype {name} is {parent}{" range 0 .. 1" if self.is_odd() else ""}'
         else:
-            base, line = name, f'type {name} is {self.array() if self.random.random() < 0.5 else self.record()}'
+            is_array = self.random.random() < 0.5 and (self.few() or not self.is_small)
+            base, (line, form) = name, self.array() if is_array else self.record()
+            line = f'type {name} is {line}'
+            self.declared.forms[base] = form
         self.declared.composites.append((name, base))
         return line
 
+    def few(self):
+        """The types that have an order and few values."""
+        return [found for found in self.declared.types if found.base != 'Boolean' and found.low <= found.high <= found.low + 20]
+
     def array(self):
-        """An array over a type that mostly has an order, of any type."""
-        ordered = [found.name for found in self.declared.types if found.base != 'Boolean']
-        return f'array ({self.mark() if self.is_odd() else self.random.choice(ordered)}) of {self.mark()}'
+        """An array over a type that mostly has an order, of any type; mostly over one of few values. In runs it is, since values are made there."""
+        few = self.few()
+        ordered = few if few and (self.is_small or self.random.random() < 0.7) else [found for found in self.declared.types if found.base != 'Boolean']
+        index, element = self.random.choice(ordered), self.mark()
+        return f'array ({self.mark() if self.is_odd() and not self.is_small else index.name}) of {element}', (index, element)
 
     def record(self):
         """A record of some fields, which mostly have names of their own."""
         free = self.random.sample(FIELD_NAMES, len(FIELD_NAMES))
-        return f'record {" ".join(self.fields(free) for _ in range(self.random.choice((1, 1, 2, 3))))} end record'
+        made = [self.fields(free) for _ in range(self.random.choice((1, 1, 2, 3)))]
+        text = ' '.join(f'{", ".join(names)} : {mark};' for names, mark in made)
+        return f'record {text} end record', [(name, mark) for names, mark in made for name in names]
 
     def fields(self, free):
         """Fields of one type, with names that are still free, or rarely other ones."""
         names = [self.random.choice(FIELD_NAMES + ('Integer', 'True')) if self.is_odd() else free.pop() for _ in range(self.random.choice((1, 1, 2)))]
-        return f'{", ".join(names)} : {self.mark()};'
+        return names, self.mark()
 
     def mark(self):
         """The name of a type, mostly of one that is declared here; or rarely another name."""
@@ -387,7 +416,12 @@ def assignments(statements):
             for body in statement.bodies():
                 yield from assignments(body)
         elif not isinstance(statement, (Leave, Asserted)):
-            yield statement
+            yield variable_in(statement[0]), statement[1]
+
+
+def variable_in(target):
+    """The variable of a target, which may be a part of it."""
+    return re.match(r'\w*', target).group()
 
 
 def paths(statements):
@@ -419,7 +453,9 @@ def sources_after(statements, sources, out=None):
             sources = joined(ends, conditions, changed)
         elif not isinstance(statement, Asserted):
             target, value = statement
-            sources = sources | {target: sources_of(value, sources)}
+            name = variable_in(target)
+            rest = sources_of(target, sources) if name != target else set()
+            sources = sources | {name: sources_of(value, sources) | rest}
     return sources
 
 
@@ -479,6 +515,8 @@ class Writer:
         self.readable = ()
         self.changed_ones = ()
         self.known = 'True'
+        # Whether texts are to be run: then arrays have few elements, and parts are in statements that are reached.
+        self.is_small = False
 
     def text(self):
         """A procedure of random parts, such a one or a case of the table with other names, or one with changes."""
@@ -501,9 +539,11 @@ class Writer:
         """A procedure of random parts that mostly fit together, and at times one without formals, or one of few statements."""
         if self.random.random() < 0.25:
             return self.short_procedure(name)
+        if self.random.random() < 0.25:
+            return self.part_procedure(name)
         formals = self.random.choice(FORMALS) if self.random.random() < 0.96 else ()
         locals_ = self.random.choice(LOCALS if self.random.random() < 0.98 else ODD_LOCALS)
-        self.declared = Declarer(self.random, formals).run() if self.random.random() < 0.6 else Declared()
+        self.declared = Declarer(self.random, formals, self.is_small).run() if self.random.random() < 0.6 else Declared()
         if self.declared.lines and self.random.random() < 0.7:
             locals_ = self.random.choice((('T',), ('T', 'U'), ('T', 'U', 'V')))
         self.choose_types(formals, locals_)
@@ -529,7 +569,7 @@ class Writer:
     def short_procedure(self, name):
         """A procedure in which variables of declared types decide what a formal is. It mostly keeps all rules."""
         formals, locals_ = ('A', 'X'), self.random.choice((('T',), ('T',), ('T', 'U')))
-        self.declared = Declarer(self.random, formals).run()
+        self.declared = Declarer(self.random, formals, self.is_small).run()
         self.choose_types(formals, locals_)
         for formal in formals:
             self.types[formal], self.bases[formal] = self.random.choice(('Integer', 'Integer', 'Natural')), 'Integer'
@@ -549,6 +589,33 @@ class Writer:
         return checked(longer(self.params(formals, sources), self.items(formals, sources), *self.spelled(statements), pre=pre,
                               post=self.post(formals), declared=self.declared.lines + self.declarations(locals_) + wholes, name=name))
 
+    def part_procedure(self, name):
+        """A procedure whose statements set and read parts, mostly after a loop without an end. It mostly keeps all rules, and its formal B
+        comes from all that they set.
+        """
+        formals, locals_ = ('A', 'X', 'B'), ('T', 'U', 'V', 'W')
+        self.declared = Declarer(self.random, formals, self.is_small).parts()
+        self.choose_types(formals, locals_)
+        for formal, mark in (('A', 'Integer'), ('X', self.random.choice(('Integer', 'Natural'))), ('B', 'Boolean')):
+            self.types[formal], self.bases[formal] = mark, 'Boolean' if mark == 'Boolean' else 'Integer'
+        names = self.random.sample(WHOLE_NAMES, self.random.choice((2, 3, 3, 4)))
+        self.wholes = {whole: self.random.choice(self.declared.composites) for whole in names}
+        self.readable = ('A', 'X')
+        known = Asserted(self.random.choice(('True', self.part_condition(formals))))
+        if self.is_small:
+            statements = [known] if self.random.random() < 0.4 else []
+        else:
+            statements = [Plain([('', [])]), known] if self.random.random() < 0.85 else []
+        targets = self.random.sample(locals_, len(locals_))
+        for target in targets[:self.random.choice((1, 2, 3, 4))]:
+            statements += self.part_statements((target,), (*formals, *locals_))
+        statements.append(('B', ' and '.join(['B', 'A = A', 'X = X', *(f'{read} = {read}' for read in (*locals_, *names))])))
+        sources = self.sources(formals, locals_, statements)
+        pre = self.random.choice((None, None, 'A > 0', 'A in 0 .. 5'))
+        self.note(formals, locals_, sources, pre)
+        declared = self.declared.lines + self.declarations(locals_) + [f'{whole} : {mark}' for whole, (mark, _) in self.wholes.items()]
+        return checked(longer(self.params(formals, sources), self.items(formals, sources), *self.spelled(statements), pre=pre, post=self.post(formals), declared=declared, name=name))
+
     def add_wholes(self, statements, formals):
         """Declarations of variables of array and record types. At times statements name them, mostly after a loop without an end: as
         nothing gives them a value, flow says of each other read that it is of an unset variable.
@@ -559,14 +626,16 @@ class Writer:
         if names and self.random.random() < 0.6:
             self.wholes = dict.fromkeys(names, self.random.choice(types))
         if names and formals and self.random.random() < 0.5:
-            found = [statement for _ in range(self.random.choice((1, 1, 2))) for statement in self.whole_statements(formals)]
+            makers = self.random.choices((self.whole_statements, self.part_statements), (25, 75), k=self.random.choice((1, 1, 2, 3)))
+            found = [statement for make in makers for statement in make(formals, formals)]
             if self.random.random() < 0.8:
-                statements += [Plain([('', [])]), Asserted(self.whole_condition()), *found]
+                last = Branch([(' and '.join(f'{name} = {name}' for name in names), [(self.random.choice(formals), self.random.choice(formals))])])
+                statements += [Plain([('', [])]), Asserted(self.whole_condition()), *found, *([last] if self.random.random() < 0.8 else [])]
             else:
                 self.insert(statements, found[-1])
         return [f'{name} : {mark}{f" := {self.whole_value(base)}" if self.random.random() < 0.02 else ""}' for name, (mark, base) in self.wholes.items()]
 
-    def whole_statements(self, formals):
+    def whole_statements(self, formals, variables):
         """At times an assignment to a variable of an array or record type, and mostly an `if` with a comparison of it with another."""
         name, target = self.random.choice(list(self.wholes)), self.random.choice(formals)
         base = self.wholes[name][1]
@@ -584,8 +653,94 @@ class Writer:
         name = self.random.choice(fitting or list(self.wholes))
         return self.random.choices((name, f'({name})', f"{self.wholes[name][0]}'({name})"), (80, 8, 12))[0]
 
+    def part_statements(self, targets, variables):
+        """An assignment to a part or from one, an `if` with a part in its condition, or a loop over an array."""
+        (text, base), target, kind = self.part(variables), self.random.choice(targets), self.random.random()
+        if kind < 0.4:
+            return [(text, self.value_for(base, variables))]
+        if kind < 0.65:
+            return [(target, self.from_part(text, base, target, variables))]
+        arrays = [name for name, (_, of) in self.wholes.items() if isinstance(self.declared.forms.get(of), tuple)]
+        if kind < 0.8 and arrays:
+            return [self.over_array(self.random.choice(arrays), variables)]
+        return [Branch([(self.part_condition(variables), [(target, self.right_side(variables, target, target))])])]
+
+    def part(self, variables):
+        """A part of an array or a record, mostly one that has no parts, and its base type, if that is known; rarely a name that leads nowhere."""
+        text = self.random.choice(list(self.wholes))
+        base = self.wholes[text][1]
+        while base in self.declared.forms and self.random.random() < 0.95:
+            form = self.declared.forms[base]
+            if self.random.random() < 0.03:
+                return text + self.random.choice(ODD_STEPS), None
+            if isinstance(form, tuple):
+                index, mark = form
+                text += f' ({self.over(index.base, self.index, index, variables)})'
+            else:
+                name, mark = self.random.choice(form)
+                text += f'.{name}'
+            base = self.declared.base_of(mark)
+        return text, base
+
+    def index(self, found, variables):
+        """An index of a type: a value of it, or something over a variable."""
+        names, kind = self.numbers(variables), self.random.random()
+        if kind < 0.02:
+            return self.random.choice(ODD_VALUES)
+        if not names or kind < 0.5:
+            return self.declared_value(found)
+        name = self.random.choice(names)
+        return name if self.is_literal(found.base) else self.random.choice((name, name, f'{name} + 1', f'{name} mod 3', self.power(variables) or name))
+
+    def value_for(self, base, variables):
+        """A value of a base type, at times another part of an array or a record."""
+        for _ in range(3):
+            text, found = self.part(variables)
+            if found == base and self.random.random() < 0.6:
+                return text
+        if base in self.declared.forms:
+            return self.whole_value(base)
+        if base == 'Boolean':
+            return self.truth(variables, 0)
+        return self.over(base or 'Integer', self.number_in, variables)
+
+    def from_part(self, text, base, target, variables):
+        """A value for a variable that mostly comes from a part."""
+        wanted = self.base_of(target)
+        if base is None or base == wanted:
+            return self.random.choice((text, text, f'({text})') if wanted == 'Boolean' else (text, text, f'{text} + 1', f'abs {text}'))
+        if wanted == 'Boolean' or base == 'Boolean' or base in self.declared.forms:
+            return self.part_condition(variables) if wanted == 'Boolean' else self.right_side(variables, target, target)
+        return f"{base}'Pos ({text})" if self.is_literal(base) else f'{self.types[target]} ({text})'
+
+    def part_condition(self, variables):
+        """A condition over a part, or over an end of an array; rarely of the wrong types."""
+        text, base = self.part(variables)
+        if base == 'Boolean' and self.random.random() < 0.7:
+            return self.random.choice((text, f'not {text}'))
+        relations = RELATIONS if base not in self.declared.forms and base != 'Boolean' else RELATIONS[:2]
+        condition = f'{text} {self.random.choice(relations)} {self.value_for(base, variables)}'
+        arrays = [name for name, (_, of) in self.wholes.items() if isinstance(self.declared.forms.get(of), tuple)]
+        if arrays and self.random.random() < 0.2:
+            name = self.random.choice(arrays)
+            index = self.declared.forms[self.wholes[name][1]][0]
+            tested = self.over(index.base, self.number_in, variables)
+            condition = f"{tested} in {name}'First .. {name}'Last and then {name} ({tested}) = {name} ({name}'First)"
+        return condition
+
+    def over_array(self, name, variables):
+        """A loop over the indexes of an array, in which an element is set."""
+        index, mark = self.declared.forms[self.wholes[name][1]]
+        self.count_names += 1
+        parameter = f'{"IJKLM"[self.count_names % 5]}{self.count_names}'
+        self.types[parameter], self.bases[parameter] = index.name, index.base
+        bounds = self.random.choice((f"{name}'First .. {name}'Last", f"{name}'First .. {name}'Last", ''))
+        return Count([(bounds, [(f'{name} ({parameter})', self.value_for(self.declared.base_of(mark), variables))])], None, parameter, index.name, index.base, self.random.random() < 0.3)
+
     def whole_condition(self):
-        """A comparison of two whole values, or rarely something else over them; at times with `not`."""
+        """A comparison of two whole values, or rarely something else over them; at times with `not`. Often it is over a part."""
+        if self.random.random() < 0.5:
+            return self.part_condition(tuple(self.readable))
         base = self.random.choice(list(self.wholes.values()))[1]
         word = self.random.choice(('=', '=', '/=')) if self.random.random() < 0.96 else self.random.choice(RELATIONS + ('+', 'and', 'in', '**'))
         made = f'{self.whole_value(base)} {word} {self.whole_value(base)}'
@@ -696,7 +851,7 @@ class Writer:
         kind, name = self.random.random(), self.random.choice(names)
         if kind < 0.25:
             made = self.random.choice((f'{name} = {name}', f'{name} = {name}', self.known, 'True'))
-        elif kind > 0.95 and self.wholes and self.declared.composites:
+        elif kind > 0.9 and self.wholes and self.declared.composites:
             made = self.whole_condition()
         else:
             made = self.truth(names, self.random.choice((0, 0, 1)))
@@ -1254,7 +1409,7 @@ class Writer:
 
     def sources(self, formals, locals_, statements):
         """The exports, which are the targets and some others, each with the formals that its last value comes from."""
-        start = {formal: {formal} for formal in formals} | {local: set() for local in locals_ if local not in formals}
+        start = {formal: {formal} for formal in formals} | {local: set() for local in (*locals_, *self.wholes) if local not in formals}
         found = sources_after(statements, start)
         targets = {target for target, _ in assignments(statements) if target in formals}
         used = {source for target in targets for source in found[target]}
@@ -1362,6 +1517,7 @@ class Runner:
     def __init__(self, seed):
         self.random = random.Random(seed)
         self.writer = Writer(seed)
+        self.writer.is_small = True
 
     def case(self, name):
         """A random run of a random text."""

@@ -313,15 +313,28 @@ class Name:
 
 
 @dataclass(frozen=True)
-class Attribute:
-    """`prefix'designator`, which is where its prefix is."""
-    prefix: Name
-    designator: Name
+class Step:
+    """A step of a name after its identifier, by the tokens with which it begins: `.`, `'`, `(`, `'(` or `~`.
+
+    The first two have an identifier. Parentheses hold expressions, each with the name of a formal before it, or none of them.
+    """
+    form: str
+    name: Optional[Name] = None
+    parts: tuple = ()
+    formals: tuple = ()
+
+
+@dataclass(frozen=True)
+class Path:
+    """An identifier and then one step or more, which is where its identifier is. Parentheses open a level over what they hold."""
+    root: Name
+    steps: tuple
+    levels: int
 
     @property
     def place(self):
-        """The place of the prefix."""
-        return self.prefix.place
+        """The place of the identifier."""
+        return self.root.place
 
 
 @dataclass(frozen=True, eq=False)
@@ -329,12 +342,16 @@ class Kind:
     """What types have that match one another: their values are 'numbers', 'truths', 'literals' or 'composites', and its base range.
 
     Each declaration of a type makes one, and no two are the same. Truth values and composite ones have no range. A composite
-    type is named as it is declared.
+    type is named as it is declared. An array type has the types of its index and of its elements, and a record type its fields, by their
+    words in small letters.
     """
     values: str
     first: Optional[int] = None
     last: Optional[int] = None
     name: Optional[str] = None
+    index: Optional['Subtype'] = None
+    element: Optional['Subtype'] = None
+    fields: Optional[dict] = None
 
     def has(self, value):
         """Whether a value lies in the base range."""
@@ -366,6 +383,13 @@ class Subtype:
 
 
 @dataclass(frozen=True)
+class FieldOf:
+    """A field of a record type, as it is spelled where it is declared, and its type."""
+    name: str
+    subtype: Subtype
+
+
+@dataclass(frozen=True)
 class Variable:
     """A variable, by its word in small letters, where it is named, of its kind. As a target it may be a constant."""
     word: str
@@ -378,23 +402,12 @@ class Variable:
 class Static:
     """A number, an attribute, a literal, or a constant: its value, where it is, of its kind.
 
-    A value is a number, or a truth value. That of another literal is its position, from 0.
+    A value is a number, or a truth value. That of another literal is its position, from 0. In a declaration an attribute of an
+    array has none.
     """
-    value: Union[int, bool]
+    value: Union[int, bool, None]
     kind: Kind
     place: Place
-
-
-@dataclass(frozen=True)
-class Entry:
-    """`name~`: the value that the variable of this name has on entry."""
-    name: Name
-    value = None
-
-    @property
-    def place(self):
-        """The place of the name."""
-        return self.name.place
 
 
 @dataclass(frozen=True)
@@ -404,6 +417,62 @@ class OnEntry:
     place: Place
     kind: Kind
     value = None
+
+
+@dataclass(frozen=True)
+class Index:
+    """`(index)` after an array: it leads to an element. The kind is that of the array."""
+    index: 'Expression'
+    array: Kind
+
+    @property
+    def subtype(self):
+        """The type of the element."""
+        return self.array.element
+
+
+@dataclass(frozen=True)
+class Selection:
+    """`.field` after a record: it leads to the field of this word. The kind is that of the record."""
+    word: str
+    record: Kind
+
+    @property
+    def subtype(self):
+        """The type of the field."""
+        return self.record.fields[self.word].subtype
+
+
+@dataclass(frozen=True)
+class Part:
+    """A part of a variable, or of its value on entry, to which these steps lead; it is where the variable is named."""
+    root: Union[Variable, OnEntry]
+    way: tuple
+    value = None
+
+    @property
+    def word(self):
+        """The word of the variable."""
+        return self.root.word
+
+    @property
+    def place(self):
+        """The place of the name."""
+        return self.root.place
+
+    @property
+    def subtype(self):
+        """The type of the part."""
+        return self.way[-1].subtype
+
+    @property
+    def kind(self):
+        """The kind of the part."""
+        return self.subtype.kind
+
+    def indexes(self):
+        """The indexes on the way, in their order."""
+        return tuple(step.index for step in self.way if isinstance(step, Index))
 
 
 # An expression has a kind, and a value where it is static. As they are read, the nodes below have neither.
@@ -439,7 +508,7 @@ class Membership:
     tested: 'Expression'
     low: Optional['Expression']
     high: Optional['Expression']
-    type_mark: Union[Name, Attribute, Subtype, None]
+    type_mark: Union[Name, Path, Subtype, None]
     levels: int
     kind: Optional[Kind] = None
     value: Optional[bool] = None
@@ -447,7 +516,7 @@ class Membership:
 
 @dataclass(frozen=True)
 class Applied:
-    """`name (operand)`, `name'designator (operand)` or `name'(operand)`, with a level more than its operand.
+    """`name (operand)`, `name'designator (operand)` or `name'(operand)`, where the name is that of a type.
 
     It is at its name. Its value is that of the operand and so much more, and lies between two bounds, if there are any.
     """
@@ -455,7 +524,6 @@ class Applied:
     designator: Optional[Name]
     is_qualified: bool
     operand: 'Expression'
-    levels: int
     more: int = 0
     low: Optional[int] = None
     high: Optional[int] = None
@@ -486,7 +554,7 @@ class Parenthesized:
     value: Union[int, bool, None] = None
 
 
-Expression = Union[Name, Attribute, Entry, Variable, OnEntry, Static, Applied, Operation, Prefix, Membership, Parenthesized]
+Expression = Union[Name, Path, Variable, OnEntry, Part, Static, Applied, Operation, Prefix, Membership, Parenthesized]
 
 
 @dataclass(frozen=True)
@@ -509,7 +577,7 @@ class Asserted:
 @dataclass(frozen=True)
 class Assignment:
     """`target := value;`"""
-    target: Union[Name, Attribute, Variable]
+    target: Union[Name, Path, Variable, Part]
     value: Expression
 
 
@@ -599,7 +667,7 @@ class For(Loop):
     place: Place
     name: Name
     is_reverse: bool
-    type_mark: Union[Name, Attribute, Subtype]
+    type_mark: Union[Name, Path, Subtype]
     low: Optional[Expression]
     high: Optional[Expression]
     statements: list
@@ -642,14 +710,14 @@ class Param:
     """`names : mode type_mark`"""
     names: list
     mode: str
-    type_mark: Union[Name, Attribute]
+    type_mark: Union[Name, Path]
 
 
 @dataclass(frozen=True)
 class VariableDeclaration:
     """`names : type_mark;`, or with `:= value` after the type mark."""
     names: list
-    type_mark: Union[Name, Attribute]
+    type_mark: Union[Name, Path]
     value: Optional[Expression]
 
 
@@ -657,7 +725,7 @@ class VariableDeclaration:
 class ConstantDeclaration:
     """`names : constant type_mark := value;`, or without a type mark, which makes named numbers."""
     names: list
-    type_mark: Union[Name, Attribute, None]
+    type_mark: Union[Name, Path, None]
     value: Expression
 
 
@@ -680,15 +748,15 @@ class EnumerationDeclaration:
 class ArrayDeclaration:
     """`type name is array (index) of element;`"""
     name: Name
-    index: Union[Name, Attribute]
-    element: Union[Name, Attribute]
+    index: Union[Name, Path]
+    element: Union[Name, Path]
 
 
 @dataclass(frozen=True)
 class Field:
     """`names : type_mark;`"""
     names: list
-    type_mark: Union[Name, Attribute]
+    type_mark: Union[Name, Path]
 
 
 @dataclass(frozen=True)
@@ -702,7 +770,7 @@ class RecordDeclaration:
 class SubtypeDeclaration:
     """`subtype name is parent;`, or with `range low .. high` after the parent."""
     name: Name
-    parent: Union[Name, Attribute]
+    parent: Union[Name, Path]
     low: Optional[Expression]
     high: Optional[Expression]
 
@@ -1002,7 +1070,7 @@ class Parser:
         if word:
             read = {'if': self.branching, 'case': self.selection, 'while': self.looping, 'for': self.counting, 'loop': self.plain}[word.kind]
             return read(word, above + 1)
-        target = self.name()
+        target = self.name(above=above)
         self.take(':=')
         value = self.expression(False, above)
         self.take(';')
@@ -1040,7 +1108,7 @@ class Parser:
         name = self.identifier()
         self.take('in')
         is_reverse = self.take_if('reverse') is not None
-        type_mark = self.name()
+        type_mark = self.name(above=above)
         low, high = self.range(above) if self.take_if('range') else (None, None)
         return For(word.place, name, is_reverse, type_mark, low, high, self.turn(above))
 
@@ -1126,12 +1194,12 @@ class Parser:
         if token.kind == 'not':
             self.take('in', marked)
         low, high, type_mark = self.sum(marked, above), None, None
-        if isinstance(low, (Name, Attribute)) and not self.next_is('..', marked):
+        if isinstance(low, (Name, Path)) and not self.next_is('..', marked):
             low, type_mark = None, low
         else:
             self.take('..', marked)
             high = self.sum(marked, above)
-        levels = max(levels_of(part) for part in (tested, low, high) if part) + 1
+        levels = max(levels_of(part) for part in (tested, low, high, type_mark) if part) + 1
         return Membership(token.kind == 'in', token.place, tested, low, high, type_mark, levels)
 
     def sum(self, marked, above):
@@ -1173,37 +1241,52 @@ class Parser:
         return Prefix(token.kind, token.place, found, levels_of(found) + 1)
 
     def primary(self, marked, above):
-        """number | name | id "~" | function "(" expression ")" | "(" predicate ")" """
+        """number | name | "(" predicate ")" """
         parenthesis = self.opening(('(',), marked, above + 1)
         if parenthesis:
             inner = self.predicate(marked, above + 1)
             self.take(')', marked)
             return Parenthesized(parenthesis.place, inner, levels_of(inner) + 1)
         number = self.take_if('number', marked)
-        return Static(number_value(number.text), UNIVERSAL, number.place) if number else self.named(marked, above)
-
-    def named(self, marked, above):
-        """id ["'" id] ["(" expression ")"] | id "'" "(" expression ")" | id "~" """
-        name, designator, is_qualified = self.identifier(marked), None, False
-        if self.take_if('~', marked):
-            return Entry(name)
-        if self.take_if("'", marked):
-            is_qualified = self.next_is('(', marked)
-            designator = None if is_qualified else self.identifier(marked)
-        if not self.opening(('(',), marked, above + 1):
-            return Attribute(name, designator) if designator else name
-        operand = self.expression(marked, above + 1)
-        self.take(')', marked)
-        return Applied(name, designator, is_qualified, operand, levels_of(operand) + 1)
+        return Static(number_value(number.text), UNIVERSAL, number.place) if number else self.name(marked, above)
 
     def name_if(self, marked=False):
         """A name, if one comes next."""
         return self.name(marked) if self.next_is('identifier', marked) else None
 
-    def name(self, marked=False):
-        """id | id "'" id"""
-        name = self.identifier(marked)
-        return Attribute(name, self.identifier(marked)) if self.take_if("'", marked) else name
+    def name(self, marked=False, above=0):
+        """id {step}, under so many levels, of which a name itself opens none"""
+        root, steps = self.identifier(marked), []
+        while any(self.next_is(kind, marked) for kind in ('.', "'", '(', '~')):
+            steps.append(self.step(marked, above))
+        levels = max((levels_of(part) + 1 for step in steps for part in step.parts), default=0)
+        return Path(root, tuple(steps), levels) if steps else root
+
+    def step(self, marked, above):
+        """"." id | "'" id | "(" arguments ")" | "'" "(" expression ")" | "~" """
+        if self.take_if('.', marked):
+            return Step('.', self.identifier(marked))
+        if self.take_if('~', marked):
+            return Step('~')
+        apostrophe = self.take_if("'", marked)
+        if apostrophe and not self.next_is('(', marked):
+            return Step("'", self.identifier(marked))
+        self.opening(('(',), marked, above + 1)
+        formals, parts = ((), (self.expression(marked, above + 1),)) if apostrophe else self.arguments(marked, above + 1)
+        self.take(')', marked)
+        return Step("'(" if apostrophe else '(', None, parts, formals)
+
+    def arguments(self, marked, above):
+        """expression {"," expression} | id "=>" expression {"," id "=>" expression}: the formals, and the expressions"""
+        following = self.tokens[self.at + 1] if self.at + 1 < len(self.tokens) else None
+        is_named = self.next_is('identifier', marked) and following is not None and (following.kind, following.marked) == ('=>', marked)
+        formals, parts = [], []
+        while not parts or self.take_if(',', marked):
+            if is_named:
+                formals.append(self.identifier(marked))
+                self.take('=>', marked)
+            parts.append(self.expression(marked, above))
+        return tuple(formals), tuple(parts)
 
     def identifiers(self):
         """id {"," id}"""
@@ -1224,11 +1307,11 @@ class Parser:
 
 def levels_of(expression):
     """How many parentheses, signs and operators lie on the longest way down."""
-    return expression.levels if parts_of(expression) else 0
+    return expression.levels if isinstance(expression, (Path, Operation, Prefix, Membership, Parenthesized)) else 0
 
 
 def parts_of(expression):
-    """The expressions that an operator, a membership test or parentheses hold, from left to right; else nothing."""
+    """The expressions that an operator, a membership test, parentheses or a part hold, from left to right; else nothing."""
     if isinstance(expression, Operation):
         return (expression.left, expression.right)
     if isinstance(expression, Prefix):
@@ -1237,6 +1320,8 @@ def parts_of(expression):
         return tuple(part for part in (expression.tested, expression.low, expression.high) if part)
     if isinstance(expression, Applied):
         return (expression.operand,)
+    if isinstance(expression, Part):
+        return expression.indexes()
     return (expression.inner,) if isinstance(expression, Parenthesized) else ()
 
 
@@ -1289,6 +1374,36 @@ def is_number(value):
     return not isinstance(value, bool)
 
 
+@dataclass(frozen=True)
+class Parted:
+    """A value of an array or record type. Its parts, by index or by field, are the first values of their types, but for these ones."""
+    kind: Kind
+    parts: dict
+
+    def part(self, step, key):
+        """The part to which a step leads; that which is not there is the first value of its type."""
+        is_there = isinstance(step, Selection) or step.array.index.has(key)
+        found = self.parts.get(key) if is_there else None
+        return first_value(step.subtype) if found is None else found
+
+    def with_part(self, steps, keys, value):
+        """The value with another one at the end of a way, if all of that is there."""
+        if not steps:
+            return value
+        (step, *rest), (key, *others) = steps, keys
+        old = self.part(step, key)
+        new = old.with_part(rest, others, value) if rest else value
+        parts = {at: part for at, part in self.parts.items() if at != key}
+        return Parted(self.kind, parts if new == first_value(step.subtype) else parts | {key: new})
+
+
+def first_value(subtype):
+    """The first value of a type, whose parts are first values too."""
+    if subtype.kind.values == 'composites':
+        return Parted(subtype.kind, {})
+    return False if subtype.kind.values == 'truths' else subtype.first
+
+
 class Fault(Exception):
     """A check that fails, by its kind and its place."""
 
@@ -1309,10 +1424,25 @@ def evaluated(expression, store):
         if expression.word not in store:
             raise Fault('unset', expression.place)
         return store[expression.word]
+    if isinstance(expression, Part):
+        value = evaluated(expression.root, store)
+        for step in expression.way:
+            value = value.part(step, key_of(step, store))
+        return value
     if isinstance(expression, Operation) and expression.operator in SHORT_CIRCUIT:
         left = evaluated(expression.left, store)
         return evaluated(expression.right, store) if left == (expression.operator == 'and then') else left
     return applied(expression, [evaluated(part, store) for part in parts_of(expression)])
+
+
+def key_of(step, store):
+    """What a step leads by: the field, or the value of the index, which lies in the index type of the array."""
+    if isinstance(step, Selection):
+        return step.word
+    value = evaluated(step.index, store)
+    if not step.array.index.has(value):
+        raise Fault('index', step.index.place)
+    return value
 
 
 def applied(expression, values):
@@ -1522,9 +1652,52 @@ EVERYWHERE = {
 FUNCTIONS = {'pos': 0, 'val': 0, 'succ': 1, 'pred': -1}
 
 
+def end_named(subtype, designator):
+    """The end of a type that `First` or `Last` gives."""
+    return subtype.first if designator.word() == 'first' else subtype.last
+
+
 def has_attribute(kind, designator):
     """Whether a type has the attribute: its ends, if it has an order; and functions, if it has literals."""
     return (designator in ('first', 'last') and kind.is_ordered()) or (designator in FUNCTIONS and kind.values == 'literals')
+
+
+def part_step(kind, step):
+    """The field or the element to which a step leads from a value of a kind, if it leads to one. Its index is not yet resolved."""
+    if kind.index is not None and step.form == '(' and len(step.parts) == 1 and not step.formals:
+        return Index(step.parts[0], kind)
+    if kind.fields is not None and step.form == '.' and step.name.word() in kind.fields:
+        return Selection(step.name.word(), kind)
+    return None
+
+
+def along(subtype, steps):
+    """The longest way that steps lead from an object of a type: to parts, the type of the last one, and the steps that are left."""
+    way = []
+    for at, step in enumerate(steps):
+        found = part_step(subtype.kind, step)
+        if found is None:
+            return way, subtype, steps[at:]
+        way.append(found)
+        subtype = found.subtype
+    return way, subtype, ()
+
+
+def rule_of(kind, step):
+    """The rule that a step breaks which leads nowhere from a value of a kind."""
+    if kind.index is not None and step.form == '(':
+        return 'N14'
+    return 'N1' if kind.fields is not None and step.form == '.' else 'N3'
+
+
+def is_end(kind, steps):
+    """Whether these steps are `'First` or `'Last`, after an array."""
+    return kind.index is not None and [step.form for step in steps] == ["'"] and steps[0].name.word() in ('first', 'last')
+
+
+def root_of(name):
+    """The first identifier of a name."""
+    return name.root if isinstance(name, Path) else name
 
 
 class Resolver:
@@ -1542,6 +1715,7 @@ class Resolver:
         self.initial = {}
         self.outer = EVERYWHERE
         self.changed = set()
+        self.is_declaring = False
         self.parameters = {}
 
     def run(self):
@@ -1554,8 +1728,10 @@ class Resolver:
         relation = Relation(derives.items if derives else [])
         changed = relation.imported & relation.exported
         post = self.tree.post and self.asserted(self.tree.post, changed)
+        self.is_declaring = True
         for declaration in self.tree.locals:
             self.declaration(declaration)
+        self.is_declaring = False
         self.own_changed = changed
         statements = self.statements(self.tree.statements)
         self.end_name()
@@ -1630,26 +1806,27 @@ class Resolver:
         self.begin([declaration.name])
         index = self.subtype(declaration.index)
         require('N10', declaration.index.place, index.kind.is_ordered())
-        self.subtype(declaration.element)
-        self.end_composite(declaration.name)
+        element = self.subtype(declaration.element)
+        self.end_composite(declaration.name, index=index, element=element)
 
     def record(self, declaration):
         """A type of its own kind. Its fields are in a scope of their own, inside that of the procedure, where its name is hidden."""
         self.begin([declaration.name])
-        around, fields = self.scope, {}
+        around, fields, made = self.scope, {}, {}
         for field in declaration.fields:
             for name in field.names:
                 require('N2', name.place, name.word() not in EVERYWHERE and name.word() not in fields)
                 fields[name.word()] = None
             self.scope = around | fields
-            self.subtype(field.type_mark)
+            subtype = self.subtype(field.type_mark)
             fields |= {name.word(): Entity('field') for name in field.names}
+            made |= {name.word(): FieldOf(name.text, subtype) for name in field.names}
         self.scope = around
-        self.end_composite(declaration.name)
+        self.end_composite(declaration.name, fields=made)
 
-    def end_composite(self, name):
-        """From the end of its declaration on, the name denotes a type of its own kind, whose values have parts."""
-        self.end([name], Entity('type', Subtype(Kind('composites', name=name.text))))
+    def end_composite(self, name, **parts):
+        """From the end of its declaration on, the name denotes a type of its own kind, whose values have these parts."""
+        self.end([name], Entity('type', Subtype(Kind('composites', name=name.text, **parts))))
 
     def subtype_of(self, declaration):
         """A type of the same kind, with the same bounds where it has none itself. N10: only a type that has an order has some.
@@ -1671,7 +1848,7 @@ class Resolver:
 
     def static(self, tree, kind=None):
         """An expression of a kind, or a number of any one. N10: it is such a one, which a universal one is too. N11: it is static."""
-        found = self.expression(tree)
+        found = whole(self.expression(tree))
         is_fit = common_kind((found.kind, kind)) is kind if kind else found.kind.values == 'numbers'
         require('N10', found.place, is_fit)
         require('N11', found.place, found.value is not None)
@@ -1698,15 +1875,14 @@ class Resolver:
         return self.scope[word] if word in self.scope else self.outer.get(word)
 
     def must_denote(self, name, *sorts):
-        """N1: the name denotes something. N3: it is of a sort that its place asks for, which no attribute is."""
-        is_attribute = isinstance(name, Attribute)
-        entity = self.denoted(name.prefix if is_attribute else name)
+        """N1: the name denotes something. N3: it is of a sort that its place asks for, and nothing follows its identifier."""
+        entity = self.denoted(root_of(name))
         require('N1', name.place, entity is not None)
-        require('N3', name.place, entity.sort in sorts and not is_attribute)
+        require('N3', name.place, entity.sort in sorts and isinstance(name, Name))
         return entity
 
     def variable(self, name, *others):
-        """N3: operands, targets and `derives` name variables. A name at some places may be of other sorts too."""
+        """N3: operands and `derives` name variables, and so do targets, which may be of other sorts too."""
         entity = self.must_denote(name, 'variable', *others)
         return Variable(entity.word or name.word(), name.place, entity.subtype.kind)
 
@@ -1765,8 +1941,23 @@ class Resolver:
             return Plain(tree.place, self.statements(tree.statements))
         if isinstance(tree, Exit):
             return Exit(tree.place, tree.condition and self.condition(tree.condition))
-        target = self.variable(tree.target, 'constant')
+        target = self.target(tree.target)
         return Assignment(target, whole(matching(self.expression(tree.value), target.kind)))
+
+    def target(self, tree):
+        """A variable, a constant, or a part of a variable, whose indexes come in their order."""
+        if isinstance(tree, Name):
+            return self.variable(tree, 'constant')
+        root = self.variable(tree.root, 'constant')
+        entity = self.denoted(tree.root)
+        require('N3', tree.place, entity.sort == 'variable')
+        way, subtype, rest = along(entity.subtype, tree.steps)
+        require(rest and rule_of(subtype.kind, rest[0]), tree.place, not rest)
+        return Part(root, tuple(self.step(step, whole) for step in way))
+
+    def step(self, step, ended=lambda index: index):
+        """A step to a part. N10: an index is of the type of the index of its array. N12: it lies in its base range."""
+        return replace(step, index=ended(matching(self.expression(step.index), step.array.index.kind))) if isinstance(step, Index) else step
 
     def counting(self, tree):
         """The parameter of a loop is declared for its statements, and hidden in what is said of it. N10: its type has an order.
@@ -1808,7 +1999,7 @@ class Resolver:
 
     def chosen(self, tree, kind):
         """N10: a bound of a choice is of the type of the selector. N11: it is static. N12: it lies in that type."""
-        found = self.expression(tree)
+        found = whole(self.expression(tree))
         require('N10', found.place, found.kind is kind or (kind is not UNIVERSAL and common_kind((found.kind, kind)) is kind))
         require('N11', found.place, found.value is not None)
         require('N12', found.place, kind.has(found.value))
@@ -1833,21 +2024,65 @@ class Resolver:
         return missing > last
 
     def extent(self, tree, kind):
-        """The first and the last value that a selector may have: of a name, a conversion or a qualification those of its subtype."""
-        if isinstance(tree, Name) or (isinstance(tree, Applied) and not tree.designator):
-            subtype = self.denoted(tree if isinstance(tree, Name) else tree.name).subtype
-            return subtype.first, subtype.last
-        return kind.first, kind.last
+        """The first and the last value that a selector may have: of a name of an object or a part, of a conversion and of a qualification
+        those of its subtype.
+        """
+        subtype = self.subtype_named(tree) or kind
+        return subtype.first, subtype.last
 
-    def applied(self, tree):
-        """N10: a conversion is to a type of numbers. N14: an attribute with an argument is a function. Then the operand."""
-        kind, designator = self.must_denote(tree.name, 'type').subtype.kind, tree.designator and tree.designator.word()
-        if designator:
-            require('N3', tree.place, has_attribute(kind, designator))
-            require('N14', tree.place, designator in FUNCTIONS)
-        else:
-            require('N10', tree.place, tree.is_qualified or kind.values == 'numbers')
-        return self.mapped(tree, self.expression(tree.operand))
+    def subtype_named(self, tree):
+        """The subtype of an object or a part that is named, of a conversion or of a qualification; else nothing."""
+        entity = self.denoted(root_of(tree)) if isinstance(tree, (Name, Path)) else None
+        if isinstance(tree, Path) and entity.sort == 'variable':
+            _, subtype, rest = along(entity.subtype, tree.steps)
+            return None if rest else subtype
+        is_function = isinstance(tree, Path) and tree.steps[0].form == "'"
+        return entity.subtype if entity and not is_function else None
+
+    def path(self, tree):
+        """A name with steps after its identifier: of a variable a part, or the ends of one that is an array; else something of a type."""
+        entity = self.denoted(tree.root)
+        if entity and entity.sort == 'variable':
+            return self.part(tree, entity)
+        require('N1', tree.place, entity is not None)
+        require('N3', tree.place, entity.sort == 'type')
+        return self.of_type(tree, entity.subtype)
+
+    def part(self, tree, entity):
+        """N1, N3, N14: each step leads to a part, or it is `'First` or `'Last` after an array. N18: `~` may be there. Then the indexes.
+
+        Of an array the ends are those of its index, and are not static in a declaration.
+        """
+        is_on_entry = tree.steps[0].form == '~'
+        way, subtype, rest = along(entity.subtype, tree.steps[is_on_entry:])
+        has_end = is_end(subtype.kind, rest)
+        require(rest and rule_of(subtype.kind, rest[0]), tree.place, has_end or not rest)
+        root = (self.on_entry if is_on_entry else self.variable)(tree.root)
+        way = tuple(self.step(step) for step in way)
+        if not has_end:
+            return Part(root, way) if way else root
+        index = subtype.kind.index
+        return Static(None if self.is_declaring else end_named(index, rest[0].name), index.kind, tree.place)
+
+    def of_type(self, tree, subtype):
+        """An attribute of a type, or a conversion, a function or a qualification. N3: no other step follows a type.
+
+        N14: each of the last three has one operand, without the name of a formal. The ends of an array type are those of its index.
+        """
+        forms, last = [step.form for step in tree.steps], tree.steps[-1]
+        require('N3', tree.place, forms in (["'"], ['('], ["'", '('], ["'("]))
+        designator = tree.steps[0].name
+        if designator and forms == ["'"] and is_end(subtype.kind, tree.steps):
+            subtype = subtype.kind.index
+        require('N3', tree.place, not designator or has_attribute(subtype.kind, designator.word()))
+        if forms == ["'"]:
+            require('N14', tree.place, designator.word() not in FUNCTIONS)
+            return Static(end_named(subtype, designator), subtype.kind, tree.place)
+        is_one = len(last.parts) == 1 and not last.formals
+        require('N14', tree.place, is_one and (not designator or designator.word() in FUNCTIONS))
+        # a conversion is to a type of numbers
+        require('N10', tree.place, forms != ['('] or subtype.kind.values == 'numbers')
+        return self.mapped(Applied(tree.root, designator, forms == ["'("], last.parts[0]), self.expression(last.parts[0]))
 
     def mapped(self, tree, operand):
         """N10: the operand is a number of any kind for a conversion and `Val`, and else of the type.
@@ -1878,8 +2113,8 @@ class Resolver:
 
     def expression(self, tree):
         """An expression over what its names denote. What an operator holds comes before it."""
-        if isinstance(tree, Applied):
-            return self.applied(tree)
+        if isinstance(tree, Path):
+            return self.path(tree)
         if isinstance(tree, Operation):
             return judged(replace(tree, left=self.expression(tree.left), right=self.expression(tree.right)))
         if isinstance(tree, Prefix):
@@ -1888,10 +2123,6 @@ class Resolver:
             return judged(self.membership(tree))
         if isinstance(tree, Parenthesized):
             return judged(replace(tree, inner=self.expression(tree.inner)))
-        if isinstance(tree, Attribute):
-            return self.attribute(tree)
-        if isinstance(tree, Entry):
-            return self.on_entry(tree)
         return self.name(tree) if isinstance(tree, Name) else tree
 
     def name(self, tree):
@@ -1901,10 +2132,10 @@ class Resolver:
             return Static(entity.value, entity.subtype.kind, tree.place)
         return self.variable(tree)
 
-    def on_entry(self, tree):
-        """N3: a variable is named before `~`. N18: its value on entry may be named there."""
-        named = self.variable(tree.name)
-        require('N18', tree.place, named.word in self.changed)
+    def on_entry(self, name):
+        """The value on entry of the variable that is named. N18: it may be named there."""
+        named = self.variable(name)
+        require('N18', name.place, named.word in self.changed)
         return OnEntry(named.word, named.place, named.kind)
 
     def membership(self, tree):
@@ -1915,14 +2146,6 @@ class Resolver:
         subtype = self.subtype(tree.type_mark)
         require('N10', tree.type_mark.place, subtype.kind.is_ordered())
         return replace(tree, tested=tested, type_mark=subtype)
-
-    def attribute(self, tree):
-        """N3: a type that has the attribute is named before `'`. N14: one that is a function has an argument."""
-        subtype = self.must_denote(tree.prefix, 'type').subtype
-        designator = tree.designator.word()
-        require('N3', tree.place, has_attribute(subtype.kind, designator))
-        require('N14', tree.place, designator not in FUNCTIONS)
-        return Static(subtype.first if designator == 'first' else subtype.last, subtype.kind, tree.place)
 
     def end_name(self):
         """N5: the name after `end`, if there is one, is the procedure's."""
@@ -2067,12 +2290,21 @@ def reads(expression):
     """The variables that an expression names, from left to right, also for their values on entry."""
     if isinstance(expression, (Variable, OnEntry)):
         return [expression]
-    return [name for part in parts_of(expression) for name in reads(part)]
+    own = [expression.root] if isinstance(expression, Part) else []
+    return own + [name for part in parts_of(expression) for name in reads(part)]
 
 
 def are_read(words, expression):
     """Whether an expression reads one of these variables."""
     return any(name.word in words for name in reads(expression))
+
+
+def reads_of_assignment(statement):
+    """What an assignment reads: to a part, the indexes, the right side, and the variable itself, of which the rest stays."""
+    target = statement.target
+    if not isinstance(target, Part):
+        return reads(statement.value)
+    return [name for index in target.indexes() for name in reads(index)] + reads(statement.value) + [target.root]
 
 
 @dataclass(frozen=True)
@@ -2123,7 +2355,7 @@ def choices(tree):
 def carried(statements, words):
     """The variables to which flows lead through statements from these ones, where the statements go on.
 
-    A target has what its right side reads, and nothing else. Of an `if` or a `case` each branch may be run; and what a
+    A target has what its assignment reads, and nothing else. Of an `if` or a `case` each branch may be run; and what a
     condition or a selector reads comes to all that it chooses among. A loop has any number of turns, and its condition chooses
     among all targets in it, before each turn. Past an exit nothing changes.
     """
@@ -2132,7 +2364,7 @@ def carried(statements, words):
             continue
         if isinstance(statement, Assignment):
             rest = words - {statement.target.word}
-            words = rest | {statement.target.word} if are_read(words, statement.value) else rest
+            words = rest | {statement.target.word} if words_of(reads_of_assignment(statement)) & words else rest
         elif isinstance(statement, (If, Case)):
             branches = [carried(branch, words) for branch in statement.branches()]
             chosen = [choice for test, _, choice in tests_of(statement) if are_read(words, test)]
@@ -2277,8 +2509,11 @@ def set_after(statements, is_set, unset_reads, exits):
     over a whole type; a plain one is left at its exits only. The parameter of a loop is set in it only.
     """
     def look(expression):
+        look_at(reads(expression))
+
+    def look_at(names):
         if is_set is not None:
-            unset_reads.extend(name for name in reads(expression) if name.word not in is_set)
+            unset_reads.extend(name for name in names if name.word not in is_set)
 
     for statement in statements:
         way = leaving(statement)
@@ -2286,7 +2521,7 @@ def set_after(statements, is_set, unset_reads, exits):
             look(way.condition)
             exits.append(set_after(way.statements, is_set, unset_reads, []))
         elif isinstance(statement, Assignment):
-            look(statement.value)
+            look_at(reads_of_assignment(statement))
             is_set = is_set if is_set is None else is_set | {statement.target.word}
         elif isinstance(statement, Asserted):
             look(statement.condition)
@@ -2388,8 +2623,51 @@ class InfixTerm:
     right: object
 
 
+@dataclass(frozen=True, eq=False)
+class ElementTerm:
+    """`whole[index]`, over terms: the element of an array of this kind."""
+    whole: object
+    index: object
+    kind: Kind
+
+    def subtype(self):
+        """The type of the element."""
+        return self.kind.element
+
+
+@dataclass(frozen=True, eq=False)
+class FieldTerm:
+    """`whole.word`, over a term: the field of a record of this kind."""
+    whole: object
+    word: str
+    kind: Kind
+
+    def subtype(self):
+        """The type of the field."""
+        return self.kind.fields[self.word].subtype
+
+
+@dataclass(frozen=True, eq=False)
+class WithElementTerm:
+    """`whole[index => part]`, over terms: the array with another element at an index."""
+    whole: object
+    index: object
+    part: object
+    kind: Kind
+
+
+@dataclass(frozen=True, eq=False)
+class WithFieldTerm:
+    """`whole[word => part]`, over terms: the record with another field."""
+    whole: object
+    word: str
+    part: object
+    kind: Kind
+
+
 number, truth, entry, later = cache(NumberTerm), cache(TruthTerm), cache(EntryTerm), cache(LaterTerm)
 prefix, in_type, infix = cache(PrefixTerm), cache(InTerm), cache(InfixTerm)
+element, field_of, with_element, with_field = cache(ElementTerm), cache(FieldTerm), cache(WithElementTerm), cache(WithFieldTerm)
 
 
 @dataclass(frozen=True)
@@ -2448,6 +2726,11 @@ def term_of(expression, values):
         return values[expression.word]
     if isinstance(expression, OnEntry):
         return entry(expression.word, expression.kind.is_ordered())
+    if isinstance(expression, Part):
+        term = term_of(expression.root, values)
+        for step in expression.way:
+            term = part_term(step, term, values)
+        return term
     parts = [term_of(part, values) for part in parts_of(expression)]
     if isinstance(expression, Operation):
         return infix(IN_TERMS.get(expression.operator, expression.operator), *parts)
@@ -2457,6 +2740,24 @@ def term_of(expression, values):
         return moved_term(expression, *parts)
     is_kept = isinstance(expression, Prefix) and expression.operator != '+'
     return prefix(expression.operator, *parts) if is_kept else parts[0]
+
+
+def part_term(step, term, values):
+    """The part to which a step leads."""
+    if isinstance(step, Selection):
+        return field_of(term, step.word, step.record)
+    return element(term, term_of(step.index, values), step.array)
+
+
+def with_part_term(way, term, value, values):
+    """The term with this value in the place of the part at the end of a way."""
+    wholes = [term]
+    for step in way:
+        wholes.append(part_term(step, wholes[-1], values))
+    for step, before in zip(reversed(way), reversed(wholes[:-1])):
+        is_field = isinstance(step, Selection)
+        value = with_field(before, step.word, value, step.record) if is_field else with_element(before, term_of(step.index, values), value, step.array)
+    return value
 
 
 def moved_term(expression, operand):
@@ -2526,12 +2827,24 @@ def checks_of(expression, values):
     """The checks of an expression, in the order in which it is evaluated. What is static has none."""
     if expression.value is not None:
         return []
+    if isinstance(expression, Part):
+        return checks_of_way(expression, values)
     found = [checks_of(part, values) for part in parts_of(expression)]
     if isinstance(expression, Operation) and expression.operator in SHORT_CIRCUIT:
         left = term_of(expression.left, values)
         needed = left if expression.operator == 'and then' else negation(left)
         found[1] = [guarded(needed, check) for check in found[1]]
     return sum(found, []) + own_checks(expression, values)
+
+
+def checks_of_way(part, values):
+    """The checks of each index on the way to a part, and that it lies in the index type of its array."""
+    found = []
+    for step in part.way:
+        if isinstance(step, Index):
+            found += checks_of(step.index, values)
+            found.append(Check('index', step.index.place, bounds_of(step.array.index, term_of(step.index, values))))
+    return found
 
 
 def guarded(needed, check):
@@ -2558,10 +2871,11 @@ def own_checks(expression, values):
     return found
 
 
-def checks_of_assignment(subtype, value, values):
-    """The checks of the right side, and that it lies in the type of the target, where that has an order."""
+def checks_of_assignment(target, subtype, value, values):
+    """The checks of the target's indexes and of the right side, and that this lies in the type of the target, where that has an order."""
     goals = bounds_of(subtype, term_of(value, values))
-    return checks_of(value, values) + ([Check('range', value.place, goals)] if goals else [])
+    way = checks_of_way(target, values) if isinstance(target, Part) else []
+    return way + checks_of(value, values) + ([Check('range', value.place, goals)] if goals else [])
 
 
 def choices_term(choices, term):
@@ -2644,15 +2958,23 @@ class Walk:
                 part(statement, statements[at + 1:], facts, values)
                 return
             if isinstance(statement, Assignment):
-                word, value = statement.target.word, statement.value
-                facts = self.show(checks_of_assignment(self.subtypes[word], value, values), facts)
-                values = {**values, word: term_of(value, values)}
+                facts, values = self.assign(statement.target, statement.value, facts, values)
             elif isinstance(statement, Asserted):
                 facts = self.show([asserted_check(statement, values)], facts)
                 if statement.is_cut():
                     return
         if self.post:
             self.show([asserted_check(self.post, values)], facts)
+
+    def assign(self, target, value, facts, values):
+        """What is known after an assignment. A variable of which a part is assigned is known to lie in its type again."""
+        subtype, is_part = self.subtypes[target.word], isinstance(target, Part)
+        facts = self.show(checks_of_assignment(target, target.subtype if is_part else subtype, value, values), facts)
+        term = term_of(value, values)
+        if is_part:
+            term = with_part_term(target.way, values[target.word], term, values)
+            facts = with_facts(facts, facts_of_type(subtype, term))
+        return facts, {**values, target.word: term}
 
     def go_from_cuts(self, statements, after, within=()):
         """From each cut in statements, in their order, along those after it and then along these others, within these loops."""
@@ -2824,6 +3146,14 @@ def require_few_paths(procedure):
         raise TooManyPaths
 
 
+OF_PARTS = (ElementTerm, FieldTerm, WithElementTerm, WithFieldTerm)
+
+
+def terms_in(term):
+    """The terms of a part, or of a composite value with another part."""
+    return tuple(part for part in (term.whole, getattr(term, 'index', None), getattr(term, 'part', None)) if part)
+
+
 @cache
 def size_of(term):
     """The nodes of a term, where one that is there twice counts twice. Each term is counted once."""
@@ -2831,6 +3161,8 @@ def size_of(term):
         return size_of(term.operand) + 1
     if isinstance(term, InfixTerm):
         return size_of(term.left) + size_of(term.right) + 1
+    if isinstance(term, OF_PARTS):
+        return sum(size_of(part) for part in terms_in(term)) + 1
     return 1
 
 
@@ -2856,6 +3188,16 @@ def folded(term):
     """Operations on literals are computed, neutral operands dropped, comparisons of a term with itself decided."""
     if isinstance(term, PrefixTerm):
         return folded_prefix(term.operator, folded(term.operand))
+    if isinstance(term, InTerm):
+        return in_type(folded(term.operand), term.name)
+    if isinstance(term, ElementTerm):
+        return folded_element(folded(term.whole), folded(term.index), term.kind)
+    if isinstance(term, FieldTerm):
+        return folded_field(folded(term.whole), term.word, term.kind)
+    if isinstance(term, WithElementTerm):
+        return with_element(folded(term.whole), folded(term.index), folded(term.part), term.kind)
+    if isinstance(term, WithFieldTerm):
+        return with_field(folded(term.whole), term.word, folded(term.part), term.kind)
     if not isinstance(term, InfixTerm):
         return term
     operator, left, right = term.operator, folded(term.left), folded(term.right)
@@ -2866,6 +3208,27 @@ def folded(term):
     if left is right and operator in RELATIONS:
         return truth(operator in ('=', '<=', '>='))
     return folded_of_numbers(operator, left, right)
+
+
+def folded_element(whole, index, kind):
+    """At a literal in range, an element of an array that has another one at such a literal is that one, or it is of the array before."""
+    def is_there(term):
+        return isinstance(term, NumberTerm) and kind.index.has(term.value)
+
+    while is_there(index) and isinstance(whole, WithElementTerm) and is_there(whole.index):
+        if whole.index is index:
+            return whole.part
+        whole = whole.whole
+    return element(whole, index, kind)
+
+
+def folded_field(whole, word, kind):
+    """A field of a record that has another one is that one, or it is of the record before."""
+    while isinstance(whole, WithFieldTerm):
+        if whole.word == word:
+            return whole.part
+        whole = whole.whole
+    return field_of(whole, word, kind)
 
 
 def is_literal(term):
@@ -2880,6 +3243,8 @@ def is_of_numbers(comparison):
         return left.is_number
     if isinstance(left, PrefixTerm):
         return left.operator != 'not'
+    if isinstance(left, OF_PARTS):
+        return isinstance(left, (ElementTerm, FieldTerm)) and left.subtype().kind.is_ordered()
     is_logical = isinstance(left, InfixTerm) and (left.operator in RELATIONS or left.operator in OF_TRUTHS)
     return not is_logical and not isinstance(left, TruthTerm)
 
@@ -3067,6 +3432,7 @@ class Known:
 
     def __init__(self, hypotheses):
         self.hypotheses = hypotheses
+        self.in_types = {hypothesis.operand for hypothesis in hypotheses if isinstance(hypothesis, InTerm)}
         self.bounds = {}
         self.found = {}
         for hypothesis in hypotheses:
@@ -3080,9 +3446,13 @@ class Known:
         return self.found[term]
 
     def structural(self, term):
-        """A number is itself, an operation has what those of its operands give, and all else is unbounded."""
+        """A number is itself, an operation has what those of its operands give, a part of what lies in its type has its own type, and
+        all else is unbounded.
+        """
         if isinstance(term, NumberTerm):
             return Interval(term.value, term.value)
+        if isinstance(term, (ElementTerm, FieldTerm)):
+            return Interval(term.subtype().first, term.subtype().last) if self.is_in_type(term.whole) else Interval()
         if isinstance(term, PrefixTerm) and term.operator != 'not':
             operand = self.interval(term.operand)
             return absolute_of(operand) if term.operator == 'abs' else difference(Interval(0, 0), operand)
@@ -3093,6 +3463,15 @@ class Known:
             most = abs(term.right.value) - 1
             found = meet(found, Interval(-most, most))
         return found
+
+
+    def is_in_type(self, term):
+        """Whether a hypothesis says that a term lies in its type, or that something does of which it is a part."""
+        while term not in self.in_types:
+            if not isinstance(term, (ElementTerm, FieldTerm)):
+                return False
+            term = term.whole
+        return True
 
 
 def below(first, second, operator='<'):
@@ -3160,11 +3539,22 @@ class Printer:
             return f'{left} {term.operator} {right}'
         if isinstance(term, InTerm):
             return f'{self.operand(term.operand, False)} in {term.name}'
+        if isinstance(term, OF_PARTS):
+            return self.text(term.whole) + self.end_text(term)
         if isinstance(term, NumberTerm):
             return str(term.value)
         if isinstance(term, TruthTerm):
             return 'true' if term.value else 'false'
         return self.entry_name(term.word) if isinstance(term, EntryTerm) else self.later_name(term.word)
+
+    def end_text(self, term):
+        """What follows the composite value of a part, or of such a value with another part."""
+        if isinstance(term, FieldTerm):
+            return f'.{term.kind.fields[term.word].name}'
+        if isinstance(term, ElementTerm):
+            return f'[{self.text(term.index)}]'
+        at = term.kind.fields[term.word].name if isinstance(term, WithFieldTerm) else self.text(term.index)
+        return f'[{at} => {self.text(term.part)}]'
 
     def operand(self, term, is_of_numbers):
         """An operation has parentheses. So has a number below 0, where an operation on numbers takes it."""
@@ -3311,18 +3701,19 @@ class Run:
             return expression.value
         if isinstance(expression, (Variable, OnEntry)):
             return self.seen(expression.word, self.store if isinstance(expression, Variable) else self.on_entry)
+        if isinstance(expression, Part):
+            value = self.stated(expression.root)
+            for step in expression.way:
+                value = value.part(step, self.stated(step.index) if isinstance(step, Index) else step.word)
+            return value
         value = computed_value(expression, [self.stated(part) for part in parts_of(expression)])
         if isinstance(value, int) and not fits(value):
             raise TooManyBits
         return value
 
     def seen(self, word, store):
-        """In an annotation a variable that is unset counts as the first value of its type.
-
-        No composite variable is ever set, so that one value stands for the first one of each of their types.
-        """
-        subtype = self.procedure.subtypes[word]
-        return store.get(word, False if subtype.kind is BOOLEAN else subtype.first)
+        """In an annotation a variable that is unset counts as the first value of its type."""
+        return store[word] if word in store else first_value(self.procedure.subtypes[word])
 
     def statements(self, statements, turns):
         """Whether an exit from the loop around the statements is taken, which ends them."""
@@ -3345,11 +3736,16 @@ class Run:
         return False
 
     def assign(self, statement):
-        """The value is evaluated, and lies in the type of the target."""
-        word, value = statement.target.word, evaluated(statement.value, self.store)
-        if not self.procedure.subtypes[word].has(value):
+        """The indexes of the target are evaluated, and then the value, which lies in the type of the target. Last the variable is read,
+        where only a part of it changes.
+        """
+        target, word = statement.target, statement.target.word
+        is_part = isinstance(target, Part)
+        keys = [key_of(step, self.store) for step in target.way] if is_part else []
+        value = evaluated(statement.value, self.store)
+        if not (target.subtype if is_part else self.procedure.subtypes[word]).has(value):
             raise Fault('range', statement.value.place)
-        self.store[word] = value
+        self.store[word] = evaluated(target.root, self.store).with_part(target.way, keys, value) if is_part else value
 
     def chosen(self, tree):
         """The statements of the first arm whose condition is true, or those of the alternative that has the value."""

@@ -9,6 +9,8 @@ use Rattle.spx_tree.specs.declared.expression.MemberOp.{MemberOp}
 use Rattle.spx_core.specs.declared.entity.Entity.{Entity}
 use Rattle.spx_core.specs.declared.entity.Entity.TheVariants as entity
 use Rattle.spx_core.specs.declared.entity.Subtype.{Subtype}
+use Rattle.spx_tree.specs.declared.expression.Identifier.{Identifier}
+use Rattle.spx_core.specs.declared.part.ArrayEnds.{ArrayEnds}
 use Rattle.spx_core.specs.declared.part.Indexing.{Indexing}
 use Rattle.spx_core.specs.declared.part.Selection.{Selection}
 use Rattle.spx_core.specs.declared.expression.CoreExpr.{CoreExpr}
@@ -19,9 +21,9 @@ use Rattle.spx_core.specs.declared.rule.RuleName.{RuleName}
 use Rattle.spx_core.specs.declared.rule.RuleName.TheVariants.{N3, N10, N12, N14, N18}
 use Rattle.spx_core.specs.declared.rule.Typing.{Typing}
 use Rattle.spx_core.specs.Contexts.{is_open, is_universal}
-use Rattle.spx_core.specs.Judged.{Judged, ◌>>=◌, application, element, expr_step, has_attribute, indexed, is_attribute, judged, keeps, mapped, member_of_range, named_object, named_type, operation, ordered_type, selected, sign, standing_at, value_at}
+use Rattle.spx_core.specs.Judged.{array_attribute, has_end, Judged, ◌>>=◌, application, element, expr_step, has_attribute, indexed, is_attribute, judged, keeps, mapped, member_of_range, named_object, named_type, operation, ordered_type, selected, sign, standing_at, value_at}
 use Rattle.spx_core.specs.Types.{both_held, has_parts, is_held, is_of, is_taken, is_typed_at, left_type, lies_in, lies_in_operand, lies_within, met, operand_fits, operands_fit, result_of, result_type, right_type, shifted_value, signed_result, three_fit}
-use Rattle.spx_core.proofs.Callers.Expressions.{Cases, induct, fold-Number, fold-Name, fold-Entry, fold-Attribute, fold-Applied, fold-Parenthesized, fold-Implicit, fold-Prefix, fold-Infix, fold-InType, fold-InRange, fold-Element, fold-Selected}
+use Rattle.spx_core.proofs.Callers.Expressions.{Cases, induct, fold-Number, fold-Name, fold-Entry, fold-Attribute, fold-Applied, fold-Parenthesized, fold-Implicit, fold-Prefix, fold-Infix, fold-InType, fold-InRange, fold-Element, fold-Selected, fold-ArrayAttribute, fold-Faulty}
 use Rattle.spx_context.specs.Powers.{has_power, is_power, power_step}
 
 -- ---- judgements one after another
@@ -111,6 +113,9 @@ element_closed x a i = then_closed (keeps N10 a.place (is_typed_at x.array a.of)
 selected_closed : (x : Selection) (a : Typing) → is_open (selected x a) ≡ false
 selected_closed x a = then_closed (keeps N10 a.place (is_typed_at x.record a.of)) _ (λ _. refl)
 
+ends_closed : (x : ArrayEnds) (designator : Identifier) (a : Typing) → is_open (array_attribute x designator a) ≡ false
+ends_closed x designator a = then_closed (keeps N10 a.place (is_typed_at x.array a.of)) _ (λ _. then_closed (keeps N3 a.place (has_end x.index designator.text)) _ (λ _. refl))
+
 -- ---- and each form
 
 standing_closed : (place : Place) (subtype : Subtype) (n : ℤ) → is_open (standing_at place subtype n) ≡ false
@@ -161,6 +166,8 @@ closed_cases = record {
       ∙ then_closed (judged a) _ (λ t. then_closed (judged low) _ (λ l. then_closed (judged high) _ (λ h. range_closed o place t l h)));
   element = λ a place i x p q plain. ap is_open (fold-Element expr_step a place i x) ∙ then_closed (judged a) _ (λ t. then_closed (judged i) _ (λ k. element_closed x t k));
   selected = λ a field x p plain. ap is_open (fold-Selected expr_step a field x) ∙ then_closed (judged a) _ (λ t. selected_closed x t);
+  array_attribute = λ a designator x p plain. ap is_open (fold-ArrayAttribute expr_step a designator x) ∙ then_closed (judged a) _ (λ t. ends_closed x designator t);
+  faulty = λ faulty plain. ap is_open (fold-Faulty expr_step faulty);
 }
 
 pub closed : (e : CoreExpr) → has_power e ≡ false → is_open (judged e) ≡ false

@@ -3,7 +3,7 @@ use Rattle.std.proofs.Common.{◌≡◌, Bool, true, false, if◌then◌else◌,
 use Rattle.spx_core.specs.declared.entity.BaseType.{BaseType}
 use Rattle.spx_core.specs.declared.expression.CoreExpr.{CoreExpr}
 use Rattle.spx_core.specs.declared.expression.CoreExpr.TheVariants.{Implicit}
-use Rattle.spx_core.specs.Contexts.{converted, is_static, taking, taking-Number, taking-Name, taking-Entry, taking-Attribute, taking-Applied, taking-Parenthesized, taking-Implicit, taking-Prefix, taking-Infix, taking-InType, taking-InRange, taking-Element, taking-Selected}
+use Rattle.spx_core.specs.Contexts.{converted, is_static, taking, taking-Number, taking-Name, taking-Entry, taking-Attribute, taking-Applied, taking-Parenthesized, taking-Implicit, taking-Prefix, taking-Infix, taking-InType, taking-InRange, taking-ArrayAttribute, taking-Faulty, taking-Element, taking-Selected}
 use Rattle.spx_core.specs.Judged.{judged}
 use Rattle.spx_core.specs.Places.{place_of}
 use Rattle.spx_core.proofs.Callers.Expressions.{Cases, induct}
@@ -36,6 +36,8 @@ whole_cases = record {
   in_range = λ o place a low high p q r base is. taking-InRange (Some base) o place a low high ∙ converts base _ _ is;
   element = λ a place i x p q base is. taking-Element (Some base) a place i x ∙ converts base _ _ is;
   selected = λ a field x p base is. taking-Selected (Some base) a field x ∙ converts base _ _ is;
+  array_attribute = λ a designator x p base is. taking-ArrayAttribute (Some base) a designator x ∙ converts base _ _ is;
+  faulty = λ faulty base is. taking-Faulty (Some base) faulty ∙ converts base _ _ is;
 }
 
 pub whole : (base : BaseType) (e : CoreExpr) → is_static (judged e) ≡ true → taking (Some base) e ≡ Implicit base (place_of e) e

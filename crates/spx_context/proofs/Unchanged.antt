@@ -5,14 +5,14 @@ use Rattle.spx_tree.specs.declared.expression.InfixOp.{InfixOp}
 use Rattle.spx_tree.specs.declared.expression.InfixOp.TheVariants as op
 use Rattle.spx_core.specs.declared.entity.BaseType.{BaseType}
 use Rattle.spx_core.specs.declared.expression.CoreExpr.{CoreExpr}
-use Rattle.spx_core.specs.declared.expression.CoreExpr.TheVariants.{Applied, Parenthesized, Prefix, Infix, InType, InRange, Element, Selected}
+use Rattle.spx_core.specs.declared.expression.CoreExpr.TheVariants.{Applied, Parenthesized, Prefix, Infix, InType, InRange, Element, Selected, ArrayAttribute}
 use Rattle.spx_core.specs.declared.rule.ExprType.{ExprType}
 use Rattle.spx_core.specs.declared.rule.ExprType.TheVariants.{Universal, Of}
 use Rattle.spx_core.specs.declared.rule.Typing.{Typing}
-use Rattle.spx_core.specs.Contexts.{in_context, is_open, left_takes, met_by, met_by_operand, met_in_range, right_takes, taken, taking, taking-Number, taking-Name, taking-Entry, taking-Attribute, taking-Applied, taking-Parenthesized, taking-Implicit, taking-Prefix, taking-Infix, taking-InType, taking-InRange, taking-Element, taking-Selected, type_given}
+use Rattle.spx_core.specs.Contexts.{in_context, is_open, left_takes, met_by, met_by_operand, met_in_range, right_takes, taken, taking, taking-Number, taking-Name, taking-Entry, taking-Attribute, taking-Applied, taking-Parenthesized, taking-Implicit, taking-Prefix, taking-Infix, taking-InType, taking-InRange, taking-Element, taking-Selected, taking-ArrayAttribute, taking-Faulty, type_given}
 use Rattle.spx_core.specs.Judged.{Judged, judged}
 use Rattle.spx_core.specs.Types.{is_numeric}
-use Rattle.spx_core.proofs.Callers.Expressions.{Cases, induct, fold-Applied, fold-Parenthesized, fold-Prefix, fold-Infix, fold-InType, fold-InRange, fold-Element, fold-Selected}
+use Rattle.spx_core.proofs.Callers.Expressions.{Cases, induct, fold-Applied, fold-Parenthesized, fold-Prefix, fold-Infix, fold-InType, fold-InRange, fold-Element, fold-Selected, fold-ArrayAttribute}
 use Rattle.spx_context.specs.Powers.{has_power, is_power, power_step}
 use Rattle.spx_context.proofs.Closed.{closed}
 
@@ -68,6 +68,8 @@ unchanged_cases = record {
       let parts = or_parts (has_power a) (has_power i) (sym (fold-Element power_step a place i x) ∙ plain) in
       taking-Element None a place i x ∙ ap₂ (λ y z. Element y place z x) (p parts.0) (in_part (Of x.index.base) i parts.1 q);
   selected = λ a field x p plain. taking-Selected None a field x ∙ ap (λ y. Selected y field x) (p (sym (fold-Selected power_step a field x) ∙ plain));
+  array_attribute = λ a designator x p plain. taking-ArrayAttribute None a designator x ∙ ap (λ y. ArrayAttribute y designator x) (p (sym (fold-ArrayAttribute power_step a designator x) ∙ plain));
+  faulty = λ faulty plain. taking-Faulty None faulty;
 }
 
 pub unchanged : (of : ExprType) (e : CoreExpr) → has_power e ≡ false → in_context of e ≡ e

@@ -24,6 +24,8 @@ power_step (CoreExpr-F.InType op place tested type_name) = tested
 power_step (CoreExpr-F.InRange op place tested low high) = tested || (low || high)
 power_step (CoreExpr-F.Element a place i x) = a || i
 power_step (CoreExpr-F.Selected a field x) = a
+power_step (CoreExpr-F.ArrayAttribute a designator x) = a
+power_step (CoreExpr-F.Faulty faulty) = false
 
 -- there is a power in the expression
 abbrev pub has_power : CoreExpr → Bool

@@ -107,6 +107,11 @@ fn with_parts(
             let prefix = taking(alloc, None, prefix)?;
             Boxed::new(alloc, CoreExpr::Selected(prefix, field, selection))
         }
+        CoreExpr::ArrayAttribute(prefix, designator, ends) => {
+            let prefix = taking(alloc, None, prefix)?;
+            Boxed::new(alloc, CoreExpr::ArrayAttribute(prefix, designator, ends))
+        }
+        CoreExpr::Faulty(faulty) => Boxed::new(alloc, CoreExpr::Faulty(faulty)),
     }
 }
 

@@ -3,8 +3,8 @@ ghost use Rattle.std.specs.Prelude.{◌≡◌};
 ghost use Rattle.spx_core.specs.Contexts as rules;
 ghost use Rattle.spx_core.specs.Judged.{judged};
 
-use spx_core::{BaseType, Breach, CoreExpr, Entity, ExprType, INTEGER, Typing};
-use spx_tree::{FunctionForm, InfixOp};
+use spx_core::{BaseType, Breach, CoreExpr, Entity, ExprType, FunctionForm, INTEGER, Typing};
+use spx_tree::InfixOp;
 use spx_types::{is_numeric, judge, met, operands_fit, right_type, three_fit};
 
 /// What an expression is judged to be.

@@ -28,5 +28,7 @@ pub fn has_power(expr: &CoreExpr) -> bool
         }
         CoreExpr::Element(prefix, _, index, _) => has_power(prefix.get()) || has_power(index.get()),
         CoreExpr::Selected(prefix, _, _) => has_power(prefix.get()),
+        CoreExpr::ArrayAttribute(prefix, _, _) => has_power(prefix.get()),
+        CoreExpr::Faulty(_) => false,
     }
 }

@@ -1,5 +1,5 @@
 -- The variables that a subprogram declares are consecutive, each with a row that says of which kind and type it is.
-use Rattle.std.proofs.Common.{◌≡◌, ◌⊎◌, ℕ, ℤ, ◌+◌, ◌<◌, false, List, [], ◌∷◌, ◌++◌, length, map, take, drop, Option, Some, None, option_map, refl, sym, ap, subst, ◌∙◌, inl, inr, append_assoc, length-append, arith}
+use Rattle.std.proofs.Common.{◌≡◌, ◌⊎◌, ℕ, ℤ, ◌+◌, ◌<◌, false, List, [], ◌∷◌, ◌++◌, length, map, take, drop, Option, Some, None, option_map, refl, sym, ap, subst, ◌∙◌, inl, inr, append_assoc, arith}
 use Rattle.std.specs.Prelude.{◌==◌, Bool, true, ⊤, option_and_then, slice_get}
 use Rattle.std.specs.List.{AllByRecursion, IsDistinct}
 use Rattle.std.proofs.lemmas.Bool.{eq-eqb, ne_eqb, eqb-true, or_cases, or_left, or_right}
@@ -41,7 +41,7 @@ use Rattle.spx_core.specs.declared.program.Var.{Var}
 use Rattle.spx_core.specs.declared.program.Program.{Program}
 use Rattle.spx_core.specs.Formals.{stands_in}
 use Rattle.spx_core.specs.Regions.{Region, Regions}
-use Rattle.spx_core.specs.Resolved.{around_formals, around_names, bounded, constant_of, counted, Counts, declared_by, declared_by_decls, declared_by_params, declared_by_scheme, declaring, declaring_all, defining, defining_all, enumeration_type, id_at, integer_type, local_kind, meant_at, mode_of, narrowed, object_of, params_of, positions, referred_subtype, resolved_decl, resolved_decls, resolved_formal_part, resolved_param, resolved_params, resolved_range, resolved_reference, resolved_scheme, resolved_type, rows_by, rows_by_decls, standard_types, static_value, var_in, var_of, variable_at, variables_by, variables_by_decls, resolved_static}
+use Rattle.spx_core.specs.Resolved.{around_formals, around_names, bounded, constant_of, counted, Before, Scene, in_code, in_declaration, next_type, declared_by, declared_by_decls, declared_by_params, declared_by_scheme, declaring, declaring_all, defining, defining_all, enumeration_type, id_at, integer_type, local_kind, meant_at, mode_of, narrowed, object_of, params_of, positions, referred_subtype, resolved_decl, resolved_decls, resolved_formal_part, resolved_param, resolved_params, resolved_range, resolved_reference, resolved_scheme, resolved_type, rows_by, rows_by_decls, standard_types, static_value, var_in, var_of, variable_at, variables_by, variables_by_decls, resolved_static}
 use Rattle.spx_core.specs.declared.rule.ExprType.TheVariants.{Universal}
 use Rattle.spx_core.specs.Scopes.{object_declared, object_in}
 use Rattle.spx_core.proofs.Positions.{InTurn, in_turn_append}
@@ -142,30 +142,30 @@ seam [] y ys = refl
 seam (x ∷ xs) y ys = seam xs y ys
 
 module _ (more : List TypeRow) where
-  -- these rows stand in the table at this position and the next ones, between others
-  abbrev pub Stand : ℕ → (front rows back : List TypeRow) → Type 0
-  Stand position front rows back = (length (standard_types ++ front) ≡ position) × (more ≡ front ++ (rows ++ back))
+  -- these rows stand in the table after these types, between others
+  abbrev pub Stand : (types front rows back : List TypeRow) → Type 0
+  Stand types front rows back = (standard_types ++ front ≡ types) × (more ≡ front ++ (rows ++ back))
 
-  pub first_stand : (position : ℕ) (front rows later back : List TypeRow) → Stand position front (rows ++ later) back → Stand position front rows (later ++ back)
-  first_stand position front rows later back stand = (stand.0, stand.1 ∙ ap (λ (xs : List TypeRow). front ++ xs) (append_assoc rows later back))
+  pub first_stand : (types front rows later back : List TypeRow) → Stand types front (rows ++ later) back → Stand types front rows (later ++ back)
+  first_stand types front rows later back stand = (stand.0, stand.1 ∙ ap (λ (xs : List TypeRow). front ++ xs) (append_assoc rows later back))
 
-  pub later_stand : (position : ℕ) (front rows later back : List TypeRow) → Stand position front (rows ++ later) back → Stand (position + length rows) (front ++ rows) later back
-  later_stand position front rows later back stand = (
-    ap length (sym (append_assoc standard_types front rows)) ∙ length-append (standard_types ++ front) rows ∙ ap (λ n. n + length rows) stand.0,
+  pub later_stand : (types front rows later back : List TypeRow) → Stand types front (rows ++ later) back → Stand (types ++ rows) (front ++ rows) later back
+  later_stand types front rows later back stand = (
+    sym (append_assoc standard_types front rows) ∙ ap (λ (xs : List TypeRow). xs ++ rows) stand.0,
     stand.1 ∙ ap (λ (xs : List TypeRow). front ++ xs) (append_assoc rows later back) ∙ sym (append_assoc front rows (later ++ back)),
   )
 
-  pub row_stands : (position : ℕ) (front back : List TypeRow) (row : TypeRow) → Stand position front (row ∷ []) back → row_at more position ≡ Some row
-  row_stands position front back row stand =
-      ap (λ (rows : List TypeRow). slice_get (standard_types ++ rows) position) stand.1
-      ∙ ap (slice_get (standard_types ++ (front ++ row ∷ back))) (sym stand.0)
+  pub row_stands : (types front back : List TypeRow) (row : TypeRow) → Stand types front (row ∷ []) back → row_at more (length types) ≡ Some row
+  row_stands types front back row stand =
+      ap (λ (rows : List TypeRow). slice_get (standard_types ++ rows) (length types)) stand.1
+      ∙ ap (λ (ts : List TypeRow). slice_get (standard_types ++ (front ++ row ∷ back)) (length ts)) (sym stand.0)
       ∙ ap (λ (rows : List TypeRow). slice_get rows (length (standard_types ++ front))) (sym (append_assoc standard_types front (row ∷ back)))
       ∙ seam (standard_types ++ front) row back
 
-  new_has_row : (position : ℕ) (front back : List TypeRow) (row : TypeRow) → Stand position front (row ∷ []) back → IsNew position row.subtype → HasRow more row.subtype
-  new_has_row position front back row stand (inl new) =
-      ap (λ (id : TypeId). option_map (λ (r : TypeRow). r.subtype) (row_at more id.0)) new ∙ ap (option_map (λ (r : TypeRow). r.subtype)) (row_stands position front back row stand)
-  new_has_row position front back row stand (inr universal) = subst (HasRow more) (sym universal) refl
+  new_has_row : (types front back : List TypeRow) (row : TypeRow) → Stand types front (row ∷ []) back → IsNew (length types) row.subtype → HasRow more row.subtype
+  new_has_row types front back row stand (inl new) =
+      ap (λ (id : TypeId). option_map (λ (r : TypeRow). r.subtype) (row_at more id.0)) new ∙ ap (option_map (λ (r : TypeRow). r.subtype)) (row_stands types front back row stand)
+  new_has_row types front back row stand (inr universal) = subst (HasRow more) (sym universal) refl
 
   -- ---- what declarations declare
 
@@ -187,30 +187,30 @@ module _ (more : List TypeRow) where
         consecutive_append (IsFormal more) position param.names _ first
         (params_consecutive (declaring_all region param.names) (position + length param.names) ps (declaring_all_holds (HasRow more) Any region param.names own (consecutive_known (HasRow more) (IsFormal more) position param.names first)))
 
-    type_known : (region : Region) (before : Counts) (name : Identifier) (d : TypeDef) (front back : List TypeRow) → Stand before.types front (rows_by (resolved_type outer region before name d)) back
+    type_known : (region : Region) (before : Before) (name : Identifier) (d : TypeDef) (front back : List TypeRow) → Stand before.types front (rows_by (resolved_type outer region before name d)) back
         → Known before.vars (variables_by (resolved_type outer region before name d)) (declared_by (resolved_type outer region before name d))
     type_known region before name (definition.Integer range) front back stand =
-        let r = resolved_range Universal (around_names outer region (name ∷ [])) range in
-        record { consecutive = tt; holds = λ P h. (new_has_row before.types front back _ stand (integer_is_new before.types (static_value r.low) (static_value r.high)), tt) }
+        let r = resolved_range (in_declaration before.types) Universal (around_names outer region (name ∷ [])) range in
+        record { consecutive = tt; holds = λ P h. (new_has_row before.types front back _ stand (integer_is_new (next_type before) (static_value r.low) (static_value r.high)), tt) }
     type_known region before name (definition.Enumeration place literals) front back stand =
-        record { consecutive = tt; holds = λ P h. (new_has_row before.types front back _ stand (inl refl), meanings_hold (HasRow more) P _ (meaning.Literals (enumeration_type before.types (length literals))) 0 literals (λ k. tt)) }
+        record { consecutive = tt; holds = λ P h. (new_has_row before.types front back _ stand (inl refl), meanings_hold (HasRow more) P _ (meaning.Literals (enumeration_type (next_type before) (length literals))) 0 literals (λ k. tt)) }
     type_known region before name (definition.Array place index element) front back stand = record { consecutive = tt; holds = λ P h. (new_has_row before.types front back _ stand (inl refl), tt) }
     type_known region before name (definition.Record fields end) front back stand = record { consecutive = tt; holds = λ P h. (new_has_row before.types front back _ stand (inl refl), tt) }
 
-    decl_known : (region : Region) (before : Counts) (d : Decl) (front back : List TypeRow) → HoldsIn (HasRow more) Any region → Stand before.types front (rows_by (resolved_decl outer region before d)) back
+    decl_known : (region : Region) (before : Before) (d : Decl) (front back : List TypeRow) → HoldsIn (HasRow more) Any region → Stand before.types front (rows_by (resolved_decl outer region before d)) back
         → Known before.vars (variables_by (resolved_decl outer region before d)) (declared_by (resolved_decl outer region before d))
     decl_known region before (decl.Variables names type_name value) front back own stand =
         let around = around_names outer region names in
-        let kind = local_kind (option_map (resolved_static around) value) in
-        record { consecutive = defining_consecutive (IsLocal more) region (object_of kind (resolved_reference around type_name)) before.vars names (kind_is_local (option_map (resolved_static around) value), type_has_row region names type_name own); holds = λ P h. h }
+        let kind = local_kind (option_map (resolved_static (in_declaration before.types) around) value) in
+        record { consecutive = defining_consecutive (IsLocal more) region (object_of kind (resolved_reference around type_name)) before.vars names (kind_is_local (option_map (resolved_static (in_declaration before.types) around) value), type_has_row region names type_name own); holds = λ P h. h }
     decl_known region before (decl.Constants names type_name value) front back own stand =
-        record { consecutive = tt; holds = λ P h. meanings_hold (HasRow more) P region _ 0 names (λ k. constants_hold (HasRow more) P (option_map (resolved_reference (around_names outer region names)) type_name) (static_value (resolved_static (around_names outer region names) value))) }
+        record { consecutive = tt; holds = λ P h. meanings_hold (HasRow more) P region _ 0 names (λ k. constants_hold (HasRow more) P (option_map (resolved_reference (around_names outer region names)) type_name) (static_value (resolved_static (in_declaration before.types) (around_names outer region names) value))) }
     decl_known region before (decl.FullType name d) front back own stand = type_known region before name d front back stand
     decl_known region before (decl.Subtype name parent range) front back own stand =
         let around = around_names outer region (name ∷ []) in
-        record { consecutive = tt; holds = λ P h. (new_has_row before.types front back _ stand (narrowed_is_new before.types (referred_subtype (resolved_reference around parent)) (option_map (resolved_range Universal around) range)), tt) }
+        record { consecutive = tt; holds = λ P h. (new_has_row before.types front back _ stand (narrowed_is_new (next_type before) (referred_subtype (resolved_reference around parent)) (option_map (resolved_range (in_declaration before.types) Universal around) range)), tt) }
 
-    pub decls_known : (region : Region) (before : Counts) (ds : List Decl) (front back : List TypeRow) → HoldsIn (HasRow more) Any region → Stand before.types front (rows_by_decls (resolved_decls outer region before ds)) back
+    pub decls_known : (region : Region) (before : Before) (ds : List Decl) (front back : List TypeRow) → HoldsIn (HasRow more) Any region → Stand before.types front (rows_by_decls (resolved_decls outer region before ds)) back
         → Known before.vars (variables_by_decls (resolved_decls outer region before ds)) (declared_by_decls (resolved_decls outer region before ds))
     decls_known region before [] front back own stand = record { consecutive = tt; holds = λ P h. h }
     decls_known region before (d ∷ ds) front back own stand =
@@ -227,46 +227,46 @@ module _ (more : List TypeRow) where
 
     -- ---- what loops declare
 
-    scheme_consecutive : (region : Region) (position : ℕ) (x : Scheme) → HoldsIn (HasRow more) Any region → Consecutive (IsLoopParameter more) position (declared_by_scheme (resolved_scheme outer region position x))
-    scheme_consecutive region position (scheme.While place condition) own = tt
-    scheme_consecutive region position scheme.Endless own = tt
-    scheme_consecutive region position (scheme.For c) own =
+    scheme_consecutive : (scene : Scene) (region : Region) (position : ℕ) (x : Scheme) → HoldsIn (HasRow more) Any region → Consecutive (IsLoopParameter more) position (declared_by_scheme (resolved_scheme scene outer region position x))
+    scheme_consecutive scene region position (scheme.While place condition) own = tt
+    scheme_consecutive scene region position scheme.Endless own = tt
+    scheme_consecutive scene region position (scheme.For c) own =
         ((object_of LoopParameter (resolved_reference (around_names outer region (c.name ∷ [])) c.type_name), (refl, type_has_row region (c.name ∷ []) c.type_name own), refl), tt)
 
-    module _ (items : List CoreDerivesItem) where
+    module _ (table : List TypeRow) (items : List CoreDerivesItem) where
       mutual
-        stmt_consecutive : {region : Region} {position : ℕ} {s : Stmt} {c : CoreStmt} {ds : List Defining} → IsStmt items outer region position s c ds → HoldsIn (HasRow more) Any region → Consecutive (IsLoopParameter more) position ds
+        stmt_consecutive : {region : Region} {position : ℕ} {s : Stmt} {c : CoreStmt} {ds : List Defining} → IsStmt table items outer region position s c ds → HoldsIn (HasRow more) Any region → Consecutive (IsLoopParameter more) position ds
         stmt_consecutive (null region position place) own = tt
         stmt_consecutive (assignment region position target value) own = tt
         stmt_consecutive (if_then region position arms closing cores ds are) own = arms_consecutive are own
         stmt_consecutive (if_else region position arms stmts closing cores body ds es are others) own = consecutive_append (IsLoopParameter more) position ds es (arms_consecutive are own) (stmts_consecutive others own)
         stmt_consecutive (case_of region position place selector alternatives closing cores ds are) own = alternatives_consecutive are own
         stmt_consecutive (loop region position x word stmts closing body ds are) own =
-            let declared = declared_by_scheme (resolved_scheme outer region position x) in
-            let first = scheme_consecutive region position x own in
+            let declared = declared_by_scheme (resolved_scheme (in_code table) outer region position x) in
+            let first = scheme_consecutive (in_code table) region position x own in
             let along = declaring_all_holds (HasRow more) Any region declared own (consecutive_known (HasRow more) (IsLoopParameter more) position declared first) in
             consecutive_append (IsLoopParameter more) position declared ds first (stmts_consecutive are along)
         stmt_consecutive (assertion region position kind place condition) own = tt
         stmt_consecutive (exit region position place condition) own = tt
 
-        arm_consecutive : {region : Region} {position : ℕ} {a : Arm} {c : CoreArm} {ds : List Defining} → IsArm items outer region position a c ds → HoldsIn (HasRow more) Any region → Consecutive (IsLoopParameter more) position ds
+        arm_consecutive : {region : Region} {position : ℕ} {a : Arm} {c : CoreArm} {ds : List Defining} → IsArm table items outer region position a c ds → HoldsIn (HasRow more) Any region → Consecutive (IsLoopParameter more) position ds
         arm_consecutive (arm region position place condition stmts body ds are) own = stmts_consecutive are own
 
-        alternative_consecutive : {region : Region} {position : ℕ} {a : Alternative} {c : CoreAlternative} {ds : List Defining} → IsAlternative items outer region position a c ds → HoldsIn (HasRow more) Any region
+        alternative_consecutive : {region : Region} {position : ℕ} {a : Alternative} {c : CoreAlternative} {ds : List Defining} → IsAlternative table items outer region position a c ds → HoldsIn (HasRow more) Any region
             → Consecutive (IsLoopParameter more) position ds
         alternative_consecutive (alternative region position choices stmts body ds are) own = stmts_consecutive are own
 
-        pub stmts_consecutive : {region : Region} {position : ℕ} {stmts : List Stmt} {cores : List CoreStmt} {ds : List Defining} → AreStmts items outer region position stmts cores ds → HoldsIn (HasRow more) Any region
+        pub stmts_consecutive : {region : Region} {position : ℕ} {stmts : List Stmt} {cores : List CoreStmt} {ds : List Defining} → AreStmts table items outer region position stmts cores ds → HoldsIn (HasRow more) Any region
             → Consecutive (IsLoopParameter more) position ds
         stmts_consecutive (no_stmts region position) own = tt
         stmts_consecutive (more_stmts region position s stmts c cores ds es first rest) own = consecutive_append (IsLoopParameter more) position ds es (stmt_consecutive first own) (stmts_consecutive rest own)
 
-        arms_consecutive : {region : Region} {position : ℕ} {arms : List Arm} {cores : List CoreArm} {ds : List Defining} → AreArms items outer region position arms cores ds → HoldsIn (HasRow more) Any region
+        arms_consecutive : {region : Region} {position : ℕ} {arms : List Arm} {cores : List CoreArm} {ds : List Defining} → AreArms table items outer region position arms cores ds → HoldsIn (HasRow more) Any region
             → Consecutive (IsLoopParameter more) position ds
         arms_consecutive (no_arms region position) own = tt
         arms_consecutive (more_arms region position a arms c cores ds es first rest) own = consecutive_append (IsLoopParameter more) position ds es (arm_consecutive first own) (arms_consecutive rest own)
 
-        alternatives_consecutive : {region : Region} {position : ℕ} {alternatives : List Alternative} {cores : List CoreAlternative} {ds : List Defining} → AreAlternatives items outer region position alternatives cores ds
+        alternatives_consecutive : {region : Region} {position : ℕ} {alternatives : List Alternative} {cores : List CoreAlternative} {ds : List Defining} → AreAlternatives table items outer region position alternatives cores ds
             → HoldsIn (HasRow more) Any region → Consecutive (IsLoopParameter more) position ds
         alternatives_consecutive (no_alternatives region position) own = tt
         alternatives_consecutive (more_alternatives region position a alternatives c cores ds es first rest) own =

@@ -6,13 +6,13 @@ use Rattle.spx_core.specs.declared.expression.CoreExpr.{CoreExpr, CoreExpr-F, fo
 use Rattle.spx_core.specs.declared.expression.CoreExpr.TheVariants.{Implicit}
 use Rattle.spx_core.specs.declared.rule.ExprType.{ExprType}
 use Rattle.spx_core.specs.declared.rule.ExprType.TheVariants.{Of}
-use Rattle.spx_core.specs.Contexts.{converted, in_context, is_static, met_in_range, taken, taking, taking-Number, taking-Name, taking-Entry, taking-Attribute, taking-Applied, taking-Parenthesized, taking-Implicit, taking-Prefix, taking-Infix, taking-InType, taking-InRange, taking-Element, taking-Selected}
-use Rattle.spx_core.specs.Erased.{erased_expr, erased_step}
+use Rattle.spx_core.specs.Contexts.{converted, in_context, is_static, met_in_range, taken, taking, taking-Number, taking-Name, taking-Entry, taking-Attribute, taking-Applied, taking-Parenthesized, taking-Implicit, taking-Prefix, taking-Infix, taking-InType, taking-InRange, taking-Element, taking-Selected, taking-ArrayAttribute, taking-Faulty}
+use Rattle.spx_core.specs.WrittenExpressions.{erased_expr, erased_step}
 use Rattle.spx_core.specs.Judged.{judged}
 use Rattle.spx_core.specs.Parts.{parts_in, parts_step}
 use Rattle.spx_core.specs.Places.{place_of}
 use Rattle.spx_core.specs.Reads.{names_read, names_step}
-use Rattle.spx_core.proofs.Callers.Expressions.{Cases, induct, fold-Applied, fold-Parenthesized, fold-Implicit, fold-Prefix, fold-Infix, fold-InType, fold-InRange, fold-Element, fold-Selected}
+use Rattle.spx_core.proofs.Callers.Expressions.{Cases, induct, fold-Applied, fold-Parenthesized, fold-Implicit, fold-Prefix, fold-Infix, fold-InType, fold-InRange, fold-Element, fold-Selected, fold-ArrayAttribute}
 
 -- a fold that looks through conversions
 module _ {A : Type 0} (step : CoreExpr-F A → A) (through : (base : BaseType) (place : Place) (x : A) → step (CoreExpr-F.Implicit base place x) ≡ x) where
@@ -66,6 +66,10 @@ module _ {A : Type 0} (step : CoreExpr-F A → A) (through : (base : BaseType) (
         (fold-Element step _ place _ x ∙ ap₂ (λ y z. step (CoreExpr-F.Element y place z x)) (p None) (q (taken (Of x.index.base) (judged i))) ∙ sym (fold-Element step a place i x));
     selected = λ a field x p given.
         ap folded (taking-Selected given a field x) ∙ converted_folds given _ _ (fold-Selected step _ field x ∙ ap (λ y. step (CoreExpr-F.Selected y field x)) (p None) ∙ sym (fold-Selected step a field x));
+    array_attribute = λ a designator x p given.
+        ap folded (taking-ArrayAttribute given a designator x)
+        ∙ converted_folds given _ _ (fold-ArrayAttribute step _ designator x ∙ ap (λ y. step (CoreExpr-F.ArrayAttribute y designator x)) (p None) ∙ sym (fold-ArrayAttribute step a designator x));
+    faulty = λ faulty given. ap folded (taking-Faulty given faulty) ∙ converted_folds given _ _ refl;
   }
 
   folds_in_context : (type : ExprType) (e : CoreExpr) → folded (in_context type e) ≡ folded e

@@ -7,8 +7,10 @@ use Rattle.std.proofs.lemmas.Bool.{and_from, and_left, and_parts, and_right, bot
 use Rattle.std.proofs.lemmas.Slice.Eq.{bytes_eq-Decides}
 use Rattle.spx_text.specs.declared.place.Place.{Place}
 use Rattle.spx_tree.specs.declared.expression.Identifier.{Identifier}
-use Rattle.spx_tree.specs.declared.expression.FunctionForm.{FunctionForm}
-use Rattle.spx_tree.specs.declared.expression.FunctionForm.TheVariants as form
+use Rattle.spx_tree.specs.declared.expression.Name.{Name}
+use Rattle.spx_tree.specs.declared.expression.NameStep.{NameStep}
+use Rattle.spx_core.specs.declared.function.FunctionForm.{FunctionForm}
+use Rattle.spx_core.specs.declared.function.FunctionForm.TheVariants as form
 use Rattle.spx_tree.specs.declared.expression.InfixOp.{InfixOp}
 use Rattle.spx_tree.specs.declared.expression.MemberOp.{MemberOp}
 use Rattle.spx_tree.specs.declared.expression.PrefixOp.{PrefixOp}
@@ -22,7 +24,9 @@ use Rattle.spx_core.specs.declared.part.Indexing.{Indexing}
 use Rattle.spx_core.specs.declared.part.Selection.{Selection}
 use Rattle.spx_core.specs.declared.name.CoreName.{CoreName}
 use Rattle.spx_core.specs.declared.name.Reference.{Reference}
-use Rattle.spx_core.specs.declared.name.Step.{Step}
+use Rattle.spx_core.specs.declared.name.FaultyName.{FaultyName}
+use Rattle.spx_core.specs.declared.name.NameFault.{NameFault}
+use Rattle.spx_core.specs.declared.part.ArrayEnds.{ArrayEnds}
 use Rattle.spx_core.specs.declared.expression.CoreExpr.{CoreExpr}
 use Rattle.spx_core.specs.declared.expression.CoreExpr.TheVariants as expr
 use Rattle.spx_core.specs.declared.function.CoreFunction.{CoreFunction}
@@ -33,15 +37,15 @@ use Rattle.spx_core.specs.declared.rule.RuleName.TheVariants.{N1, N3, N10, N12, 
 use Rattle.spx_core.specs.declared.rule.ExprType.TheVariants.{Of}
 use Rattle.spx_core.specs.declared.rule.Typing.{Typing}
 use Rattle.spx_core.specs.HasType.{HasType}
-use Rattle.spx_core.specs.Judged.{Judged, ◌>>=◌, application, applied_form, attribute, attribute_function, condition, element, entry_value, expr_step, function_at, has_attribute, implicit, ordered_type, is_attribute, is_first, is_function, is_whole, is_word, judged, keeps, mapped, member_of_range, member_of_type, named_object, named_target, named_type, named_value, object_at, operand_of, operation, referred_object, referred_type, selected, sign, standing_at, target_at, type_at, value_at, whole}
+use Rattle.spx_core.specs.Judged.{Judged, ◌>>=◌, array_attribute, breach_of, has_end, application, applied_form, attribute, attribute_function, condition, element, entry_value, expr_step, function_at, has_attribute, implicit, ordered_type, is_attribute, is_first, is_function, is_whole, is_word, judged, keeps, mapped, member_of_range, member_of_type, named_object, named_target, named_type, named_value, object_at, operand_of, operation, referred_object, referred_type, selected, sign, standing_at, target_at, type_at, value_at, whole}
 use Rattle.spx_core.specs.NameBreaches as broken
-use Rattle.spx_core.specs.NameBreaches.{BreaksCondition, BreaksExpr, BreaksName, BreaksReference, IsObject, IsTarget, IsType, IsValue, assigned_type}
+use Rattle.spx_core.specs.NameBreaches.{BreaksCondition, BreaksExpr, BreaksFaulty, BreaksName, BreaksReference, IsObject, IsTarget, IsType, IsValue, assigned_type}
 use Rattle.spx_core.specs.Statements.{test}
 use Rattle.spx_core.specs.Types.{both_held, has_literals, has_numbers, has_parts, is_boolean, is_held, is_numeric, is_of, is_taken, is_typed_at, left_type, lies_in, lies_in_operand, lies_within, met, operand_fits, operands_fit, result_of, result_type, right_type, shifted_value, signed_result, three_fit}
 use Rattle.spx_core.proofs.Elements.{in_first, in_none}
 use Rattle.spx_core.proofs.Judgements.{bound, by_part, by_test, joined, kept, ok_is}
 use Rattle.spx_core.proofs.TypedLaws.{complete, sound}
-use Rattle.spx_core.proofs.Callers.Expressions.{Cases, induct, fold-Number, fold-Name, fold-Entry, fold-Attribute, fold-Applied, fold-Parenthesized, fold-Implicit, fold-Prefix, fold-Infix, fold-InType, fold-InRange, fold-Element, fold-Selected}
+use Rattle.spx_core.proofs.Callers.Expressions.{Cases, induct, fold-Number, fold-Name, fold-Entry, fold-Attribute, fold-Applied, fold-Parenthesized, fold-Implicit, fold-Prefix, fold-Infix, fold-InType, fold-InRange, fold-Element, fold-Selected, fold-ArrayAttribute, fold-Faulty}
 
 -- ---- names
 
@@ -169,11 +173,11 @@ no_type_name name subtype h = no_name IsType name (entity.TypeName subtype) (typ
 
 -- ---- names with what follows their first identifier
 
-pub some_step : (way : List Step) → is_whole way ≡ false → (step : Step) × Contains way step
+pub some_step : (way : List NameStep) → is_whole way ≡ false → (step : NameStep) × Contains way step
 some_step [] h = absurd cc
 some_step (step ∷ way) h = (step, in_first step way)
 
-pub no_step : (way : List Step) (step : Step) → is_whole way ≡ true → Contains way step → ⊥
+pub no_step : (way : List NameStep) (step : NameStep) → is_whole way ≡ true → Contains way step → ⊥
 no_step [] step h is = in_none step is
 no_step (first ∷ way) step h is = cc
 
@@ -181,17 +185,17 @@ module _ {A : Type 0} (IsNeeded : Entity → Type 0) (needed : Judged A) (refere
   reference_found : (b : Breach) → (needed ≡ Err b → At (BreaksName IsNeeded reference.root) b) → (needed >>= λ a. whole reference >>= λ _. Ok a) ≡ Err b → At (BreaksReference IsNeeded reference) b
   reference_found b found h =
       by_part needed _ b h (λ e. broken.root b.rule b.place (found e)) (λ a is h.
-      by_part (whole reference) _ b h (λ e. by_test (BreaksReference IsNeeded reference) _ _ _ b e (λ no. let step = some_step reference.way no in broken.not_whole step.0 step.1)) (λ _ _ h. absurd cc))
+      by_part (whole reference) _ b h (λ e. by_test (BreaksReference IsNeeded reference) _ _ _ b e (λ no. let step = some_step reference.steps no in broken.not_whole step.0 step.1)) (λ _ _ h. absurd cc))
 
-  pub reference_is : (a : A) → (needed >>= λ a. whole reference >>= λ _. Ok a) ≡ Ok a → (needed ≡ Ok a) × (is_whole reference.way ≡ true)
+  pub reference_is : (a : A) → (needed >>= λ a. whole reference >>= λ _. Ok a) ≡ Ok a → (needed ≡ Ok a) × (is_whole reference.steps ≡ true)
   reference_is a h =
       let n = bound needed _ a h in
       let w = bound (whole reference) _ a n.2 in
       (n.1 ∙ w.2, kept _ _ _ w.1)
 
-  no_reference : is_whole reference.way ≡ true → ((rule : RuleName) (place : Place) → ¬ BreaksName IsNeeded reference.root rule place) → (rule : RuleName) (place : Place) → ¬ BreaksReference IsNeeded reference rule place
+  no_reference : is_whole reference.steps ≡ true → ((rule : RuleName) (place : Place) → ¬ BreaksName IsNeeded reference.root rule place) → (rule : RuleName) (place : Place) → ¬ BreaksReference IsNeeded reference rule place
   no_reference ends named _ _ (broken.root rule place h) = named rule place h
-  no_reference ends named _ _ (broken.not_whole step is) = no_step reference.way step ends is
+  no_reference ends named _ _ (broken.not_whole step is) = no_step reference.steps step ends is
 
 pub object_reference_found : (reference : Reference) (b : Breach) → referred_object reference ≡ Err b → At (BreaksReference IsObject reference) b
 object_reference_found reference b h = reference_found IsObject (named_object reference.root) reference b (object_found reference.root _ b refl) h
@@ -358,6 +362,20 @@ selected_found : (a : CoreExpr) (field : Identifier) (x : Selection) (o : Typing
 selected_found a field x o d b h =
     by_part (keeps N10 o.place (is_typed_at x.record o.of)) _ b h (λ e. by_test (BreaksExpr (expr.Selected a field x)) N10 o.place (is_typed_at x.record o.of) b e (broken.no_record a field x o d)) (λ _ _ h. absurd cc)
 
+end_found : (a : CoreExpr) (designator : Identifier) (x : ArrayEnds) (o : Typing) → HasType a o → (b : Breach) → array_attribute x designator o ≡ Err b → At (BreaksExpr (expr.ArrayAttribute a designator x)) b
+end_found a designator x o d b h =
+    let Breaks = BreaksExpr (expr.ArrayAttribute a designator x) in
+    by_part (keeps N10 o.place (is_typed_at x.array o.of)) _ b h (λ e. by_test Breaks N10 o.place (is_typed_at x.array o.of) b e (broken.no_array_with_ends a designator x o d)) (λ _ _ h.
+    by_part (keeps N3 o.place (has_end x.index designator.text)) _ b h (λ e. by_test Breaks N3 o.place (has_end x.index designator.text) b e (broken.no_end a designator x o d)) (λ _ _ h. absurd cc))
+
+-- a name that denotes nothing breaks the rule that is reported of it
+pub faulty_breaks : (root : Option Entity) (fault : NameFault) (name : Name) → let faulty : FaultyName = record { root = root; fault = fault; name = name } in At (BreaksFaulty faulty) (breach_of faulty)
+faulty_breaks None fault name = broken.undeclared refl
+faulty_breaks (Some e) fault name = broken.leads_nowhere e refl
+
+pub faulty_found : (faulty : FaultyName) (b : Breach) → breach_of faulty ≡ b → At (BreaksFaulty faulty) b
+faulty_found faulty b is = subst (At (BreaksFaulty faulty)) is (faulty_breaks faulty.root faulty.fault faulty.name)
+
 found_cases : Cases Found
 found_cases = record {
   number = λ n place b h. let e = sym (fold-Number expr_step n place) ∙ h in absurd cc;
@@ -387,6 +405,9 @@ found_cases = record {
       by_part (judged i) _ b h (λ e. broken.index a at i x b.rule b.place (q b e)) (λ k second e. element_found a at i x o k (sound a o first) (sound i k second) b e));
   selected = λ a field x p b h.
       by_part (judged a) _ b (sym (fold-Selected expr_step a field x) ∙ h) (λ e. broken.record_of a field x b.rule b.place (p b e)) (λ o is e. selected_found a field x o (sound a o is) b e);
+  array_attribute = λ a designator x p b h.
+      by_part (judged a) _ b (sym (fold-ArrayAttribute expr_step a designator x) ∙ h) (λ e. broken.array_of a designator x b.rule b.place (p b e)) (λ o is e. end_found a designator x o (sound a o is) b e);
+  faulty = λ faulty b h. let e : Err (breach_of faulty) ≡ Err b = sym (fold-Faulty expr_step faulty) ∙ h in broken.faulty faulty b.rule b.place (faulty_found faulty b cc);
 }
 
 pub expr_found : (e : CoreExpr) → Found e
@@ -601,6 +622,14 @@ selected_parts a field x t h =
     let whole = bound (keeps N10 o.0.place (is_typed_at x.record o.0.of)) _ t o.2 in
     (o.0, o.1, kept N10 o.0.place _ whole.1)
 
+end_parts : (a : CoreExpr) (designator : Identifier) (x : ArrayEnds) (t : Typing) → judged (expr.ArrayAttribute a designator x) ≡ Ok t
+    → (o : Typing) × (judged a ≡ Ok o) × (is_typed_at x.array o.of ≡ true) × (has_end x.index designator.text ≡ true)
+end_parts a designator x t h =
+    let o = bound (judged a) _ t (sym (fold-ArrayAttribute expr_step a designator x) ∙ h) in
+    let whole = bound (keeps N10 o.0.place (is_typed_at x.array o.0.of)) _ t o.2 in
+    let ends = bound (keeps N3 o.0.place (has_end x.index designator.text)) _ t whole.2 in
+    (o.0, o.1, kept N10 o.0.place _ whole.1, kept N3 o.0.place _ ends.1)
+
 -- one expression has one type
 pub one_typing : (e : CoreExpr) (t u : Typing) → judged e ≡ Ok t → HasType e u → t ≡ u
 one_typing e t u h d = ok_is (sym h ∙ complete e u d)
@@ -681,6 +710,10 @@ no_expr _ _ _ (broken.index_out_of_type a at i x k d fails) t ok =
     both_ways _ fails (subst (λ (k : Typing). lies_in (Of x.index.base) k.value ≡ true) (one_typing i p.1 k p.3 d) p.4.index_lies)
 no_expr _ _ _ (broken.record_of a field x rule place h) t ok = let p = selected_parts a field x t ok in no_expr a rule place h p.0 p.1
 no_expr _ _ _ (broken.no_record a field x o d fails) t ok = let p = selected_parts a field x t ok in both_ways _ fails (subst (λ (o : Typing). is_typed_at x.record o.of ≡ true) (one_typing a p.0 o p.1 d) p.2)
+no_expr _ _ _ (broken.array_of a designator x rule place h) t ok = let p = end_parts a designator x t ok in no_expr a rule place h p.0 p.1
+no_expr _ _ _ (broken.no_array_with_ends a designator x o d fails) t ok = let p = end_parts a designator x t ok in both_ways _ fails (subst (λ (o : Typing). is_typed_at x.array o.of ≡ true) (one_typing a p.0 o p.1 d) p.2)
+no_expr _ _ _ (broken.no_end a designator x o d fails) t ok = both_ways _ fails (end_parts a designator x t ok).3
+no_expr _ _ _ (broken.faulty faulty rule place h) t ok = let no : Err (breach_of faulty) ≡ Ok t = sym (fold-Faulty expr_step faulty) ∙ ok in absurd cc
 no_expr _ _ _ (broken.no_operand op at a o d fails) t ok = both_ways _ fails (signed_passes op at a o t d ok).0
 no_expr _ _ _ (broken.sign_out_of_range op at a o d fails) t ok = both_ways _ fails (signed_passes op at a o t d ok).1
 no_expr _ _ _ (broken.no_operands op at a c l r d f fails) t ok = both_ways _ fails (operated_passes op at a c l r t d f ok).fit

@@ -6,8 +6,9 @@ use Rattle.std.specs.Str.{str_eq_ignore_ascii_case}
 use Rattle.std.proofs.lemmas.Bool.{eqb-true, or_cases}
 use Rattle.spx_tree.specs.declared.expression.Identifier.{Identifier}
 use Rattle.spx_tree.specs.declared.expression.Name.{Name}
-use Rattle.spx_tree.specs.declared.expression.Name.TheVariants.{Simple, Attribute}
-use Rattle.spx_tree.specs.declared.expression.Expr.{Expr, Expr-F, roll-Expr, map-Expr, ind-Expr, fold-roll-Expr}
+use Rattle.spx_tree.specs.declared.expression.Expr.{Expr}
+use Rattle.spx_tree.specs.declared.expression.NameStep.{NameStep}
+use Rattle.spx_tree.specs.declared.expression.Path.{Path}
 use Rattle.spx_core.specs.declared.entity.VarId.{VarId}
 use Rattle.spx_core.specs.declared.entity.Subtype.{Subtype}
 use Rattle.spx_core.specs.declared.entity.Object.{Object}
@@ -16,15 +17,23 @@ use Rattle.spx_core.specs.declared.entity.Entity.TheVariants as entity
 use Rattle.spx_core.specs.declared.name.CoreName.{CoreName}
 use Rattle.spx_core.specs.declared.name.Defining.{Defining}
 use Rattle.spx_core.specs.declared.expression.CoreExpr.{CoreExpr}
-use Rattle.spx_core.specs.declared.dependency.CoreDerivesItem.{CoreDerivesItem}
+use Rattle.spx_core.specs.declared.name.NameFault.{NameFault}
+use Rattle.spx_core.specs.declared.name.NameFault.TheVariants.{NoPart}
+use Rattle.spx_core.specs.declared.part.PartStep.{PartStep}
+use Rattle.spx_core.specs.declared.part.PartStep.TheVariants as part
+use Rattle.spx_core.specs.declared.part.Target.{Target}
+use Rattle.spx_core.specs.declared.rule.ExprType.TheVariants.{Of}
 use Rattle.spx_core.specs.declared.program.TypeRow.{TypeRow}
 use Rattle.spx_core.specs.Uses.{denotes, is_same, mentions, uses, variable_of}
-use Rattle.spx_core.specs.Reads.{names_read, names_step}
+use Rattle.spx_core.specs.NamedParts.{along}
+use Rattle.spx_core.specs.Reads.{names_on_way, names_read, names_step}
 use Rattle.spx_core.specs.Regions.{Declaration, Region, Regions, declared_in, denoted, hidden, standard}
-use Rattle.spx_core.specs.Resolved.{around_body, declaring, declaring_all, expr_step, is_changed_by, referred_subtype, resolved_function, resolved_in, resolved_name, resolved_reference, standard_types, subtype_of}
-use Rattle.spx_core.proofs.Callers.Expressions.{fold-Number, fold-Name, fold-Entry, fold-Attribute, fold-Applied, fold-Parenthesized, fold-Prefix, fold-Infix, fold-InType, fold-InRange}
+use Rattle.spx_core.specs.Resolved.{Scene, around_body, declaring, declaring_all, in_code, referred_subtype, resolved_in, resolved_name, resolved_reference, resolved_target, standard_types, step_in_context, subtype_of, target_along, target_at, target_of}
+use Rattle.spx_core.proofs.Callers.Expressions.{fold-Number, fold-Name, fold-Entry, fold-Attribute, fold-Applied, fold-Parenthesized, fold-Prefix, fold-Infix, fold-InType, fold-InRange, fold-Element, fold-Selected, fold-ArrayAttribute, fold-Faulty}
 use Rattle.spx_core.proofs.Callers.ListTests.{each_append, some_mapped}
 use Rattle.spx_core.proofs.Callers.Variables.{same_var}
+use Rattle.spx_core.proofs.ContextLaws.{reads_in_context}
+use Rattle.spx_core.proofs.NamedValues.{Closes, StepHolds, all_resolved_hold, along_holds, resolved_holds}
 
 pub either : {X : Type 0} (Q : X → Type 0) (b : Bool) (x y : X) → Q x → Q y → Q (if b then x else y)
 either Q true x y left right = left
@@ -136,8 +145,7 @@ module _ (T : Subtype → Type 0) (P : VarId → Object → Type 0) where
   module _ (regions : Regions) (all : AllByRecursion HoldsIn regions) where
     pub reference_variable : (v : VarId) (name : Name) → denotes v (resolved_reference regions name).root ≡ true
         → (object : Object) × ((resolved_reference regions name).root.entity ≡ Some (entity.Variable v object)) × P v object
-    reference_variable v (Simple name) is = denoted_variable v (denoted regions name.text) (denoted_holds regions name.text all) is
-    reference_variable v (Attribute prefix designator) is = denoted_variable v (denoted regions prefix.text) (denoted_holds regions prefix.text all) is
+    reference_variable v name is = denoted_variable v (denoted regions name.path.root.text) (denoted_holds regions name.path.root.text all) is
 
     pub mentioned_variable : (v : VarId) (names : List Name) → mentions v (map (resolved_reference regions) names) ≡ true → (object : Object) × P v object
     mentioned_variable v names is =
@@ -146,8 +154,7 @@ module _ (T : Subtype → Type 0) (P : VarId → Object → Type 0) where
         (known.0, known.2)
 
     pub root_holds : (name : Name) → Holds T P (resolved_reference regions name).root.entity
-    root_holds (Simple name) = denoted_holds regions name.text all
-    root_holds (Attribute prefix designator) = denoted_holds regions prefix.text all
+    root_holds name = denoted_holds regions name.path.root.text all
 
     -- the type that it names, or that counts as named
     pub referred_holds : OfPredefined T → (name : Name) → T (referred_subtype (resolved_reference regions name))
@@ -158,10 +165,10 @@ module _ (T : Subtype → Type 0) (P : VarId → Object → Type 0) where
     abbrev pub AreKnown : List CoreName → Type 0
     AreKnown names = AllByRecursion (λ (name : CoreName). Holds T P name.entity) names
 
-    both_known : (xs ys : List CoreName) → AreKnown xs → AreKnown ys → AreKnown (xs ++ ys)
+    pub both_known : (xs ys : List CoreName) → AreKnown xs → AreKnown ys → AreKnown (xs ++ ys)
     both_known xs ys left right = each_append _ xs ys left right
 
-    known_variable : (v : VarId) (names : List CoreName) → AreKnown names → list_any (denotes v) names ≡ true → (object : Object) × P v object
+    pub known_variable : (v : VarId) (names : List CoreName) → AreKnown names → list_any (denotes v) names ≡ true → (object : Object) × P v object
     known_variable v [] known h = absurd cc
     known_variable v (name ∷ names) known h =
         elim (or_cases (denotes v name) (list_any (denotes v) names) h) [
@@ -169,33 +176,77 @@ module _ (T : Subtype → Type 0) (P : VarId → Object → Type 0) where
           | inr later ↦ known_variable v names known.1 later
         ]
 
-    module _ (items : List CoreDerivesItem) where
-      abbrev ReadsKnown : Expr → Type 0
-      ReadsKnown e = AreKnown (names_read (resolved_in items regions e))
+    abbrev pub ReadsKnown : CoreExpr → Type 0
+    ReadsKnown e = AreKnown (names_read e)
 
-      abbrev Shown : Type 0
-      Shown = (e : Expr) × ReadsKnown e
+    forms_keep : (types : List TypeRow) → Closes ReadsKnown (λ part. ⊤) types (λ x is. tt) (λ x fields is found. tt) regions
+    forms_keep types = record {
+      number = λ n place. subst AreKnown (sym (fold-Number names_step n place)) tt;
+      name = λ word. subst AreKnown (sym (fold-Name names_step (resolved_name regions word))) (denoted_holds regions word.text all, tt);
+      entry = λ word allowed. subst AreKnown (sym (fold-Entry names_step (resolved_name regions word) allowed)) (denoted_holds regions word.text all, tt);
+      attribute = λ prefix designator. subst AreKnown (sym (fold-Attribute names_step prefix designator)) tt;
+      applied = λ function place a is. subst AreKnown (sym (fold-Applied names_step function place a)) is;
+      parenthesized = λ place a is. subst AreKnown (sym (fold-Parenthesized names_step place a)) is;
+      prefix = λ op place a is. subst AreKnown (sym (fold-Prefix names_step op place a)) is;
+      «infix» = λ op place a b left right. subst AreKnown (sym (fold-Infix names_step op place a b)) (both_known _ _ left right);
+      in_type = λ op place a name is. subst AreKnown (sym (fold-InType names_step op place a name)) is;
+      in_range = λ op place a low high is l h. subst AreKnown (sym (fold-InRange names_step op place a low high)) (both_known _ _ is (both_known _ _ l h));
+      element = λ a place i x known is index. subst AreKnown (sym (fold-Element names_step a place i x)) (both_known _ _ is index);
+      selected = λ a field x known is. subst AreKnown (sym (fold-Selected names_step a field x)) is;
+      array_attribute = λ a designator x is. subst AreKnown (sym (fold-ArrayAttribute names_step a designator x)) tt;
+      faulty = λ faulty. subst AreKnown (sym (fold-Faulty names_step faulty)) tt;
+    }
 
-      at_layer : (y : Expr-F Shown) → AreKnown (names_read (expr_step items regions (map-Expr Expr CoreExpr (resolved_in items regions) (map-Expr Shown Expr (λ e. e.0) y))))
-      at_layer (Expr-F.Number n place) = subst AreKnown (sym (fold-Number names_step n place)) tt
-      at_layer (Expr-F.Name (Simple name)) = subst AreKnown (sym (fold-Name names_step (resolved_name regions name))) (denoted_holds regions name.text all, tt)
-      at_layer (Expr-F.Name (Attribute prefix designator)) = subst AreKnown (sym (fold-Attribute names_step (resolved_name regions prefix) designator)) tt
-      at_layer (Expr-F.Entry name) = subst AreKnown (sym (fold-Entry names_step (resolved_name regions name) (is_changed_by items (resolved_name regions name)))) (denoted_holds regions name.text all, tt)
-      at_layer (Expr-F.Applied function place a) = subst AreKnown (sym (fold-Applied names_step (resolved_function regions function) place (resolved_in items regions a.0))) a.1
-      at_layer (Expr-F.Parenthesized place a) = subst AreKnown (sym (fold-Parenthesized names_step place (resolved_in items regions a.0))) a.1
-      at_layer (Expr-F.Prefix op place a) = subst AreKnown (sym (fold-Prefix names_step op place (resolved_in items regions a.0))) a.1
-      at_layer (Expr-F.Infix op place a b) =
-          subst AreKnown (sym (fold-Infix names_step op place (resolved_in items regions a.0) (resolved_in items regions b.0))) (both_known _ _ a.1 b.1)
-      at_layer (Expr-F.InType op place a name) = subst AreKnown (sym (fold-InType names_step op place (resolved_in items regions a.0) (resolved_reference regions name))) a.1
-      at_layer (Expr-F.InRange op place a low high) =
-          subst AreKnown (sym (fold-InRange names_step op place (resolved_in items regions a.0) (resolved_in items regions low.0) (resolved_in items regions high.0)))
-          (both_known _ _ a.1 (both_known _ _ low.1 high.1))
+    module _ (scene : Scene) where
+      pub read_known : (e : Expr) → ReadsKnown (resolved_in scene regions e)
+      read_known e = resolved_holds ReadsKnown (λ part. ⊤) scene.types (λ x is. tt) (λ x fields is found. tt) regions (forms_keep scene.types) scene refl e
 
-      layer : (y : Expr-F Shown) → ReadsKnown (roll-Expr (map-Expr Shown Expr (λ e. e.0) y))
-      layer y = subst (λ e. AreKnown (names_read e)) (sym (fold-roll-Expr CoreExpr (expr_step items regions) (map-Expr Shown Expr (λ e. e.0) y))) (at_layer y)
+      pub used_variable : (v : VarId) (e : Expr) → uses v (resolved_in scene regions e) ≡ true → (object : Object) × P v object
+      used_variable v e h = known_variable v (names_read (resolved_in scene regions e)) (read_known e) h
 
-      pub read_known : (e : Expr) → ReadsKnown e
-      read_known = ind-Expr ReadsKnown (λ x y is. subst (λ z. ReadsKnown (roll-Expr z)) is (layer y))
+    -- ---- the names on the way to a target
 
-      pub used_variable : (v : VarId) (e : Expr) → uses v (resolved_in items regions e) ≡ true → (object : Object) × P v object
-      used_variable v e h = known_variable v (names_read (resolved_in items regions e)) (read_known e) h
+    way_known : (types : List TypeRow) (way : List PartStep) → AllByRecursion (StepHolds ReadsKnown (λ part. ⊤) types (λ x is. tt) (λ x fields is found. tt)) way → AreKnown (names_on_way (map step_in_context way))
+    way_known types [] known = tt
+    way_known types (part.Index place i x ∷ way) known = both_known _ _ (subst AreKnown (sym (reads_in_context (Of x.index.base) i)) known.0.1) (way_known types way known.1)
+    way_known types (part.Field field x ∷ way) known = way_known types way known.1
+
+    target_at_known : (types : List TypeRow) (root : CoreName) (path : Path) (parts : List CoreExpr) (fault : NameFault) (way : List PartStep) (rest : List NameStep) (left : List CoreExpr)
+        → AllByRecursion (StepHolds ReadsKnown (λ part. ⊤) types (λ x is. tt) (λ x fields is found. tt)) way → AreKnown (names_on_way (target_at root path parts fault way rest left).way)
+    target_at_known types root path parts fault way [] [] known = way_known types way known
+    target_at_known types root path parts fault way rest left known = tt
+
+    target_of_known : (types : List TypeRow) (name : CoreName) (path : Path) (parts : List CoreExpr) (o : Option Entity) → name.entity ≡ o → AllByRecursion ReadsKnown parts → AreKnown (names_on_way (target_of types name path parts).way)
+    target_of_known types name path parts o is known = subst (λ (e : Option Entity). AreKnown (names_on_way (by_root e).way)) (sym is) (at_root o)
+      where
+        by_root : Option Entity → Target
+        by_root (Some (entity.Variable v object)) = target_along types name path parts (along types object.subtype path.steps parts)
+        by_root other = target_at name path parts NoPart [] path.steps parts
+
+        at_root : (e : Option Entity) → AreKnown (names_on_way (by_root e).way)
+        at_root (Some (entity.Variable v object)) =
+            let x = along types object.subtype path.steps parts in
+            target_at_known types name path parts _ x.way x.rest x.parts (along_holds ReadsKnown (λ part. ⊤) types (λ x is. tt) (λ x fields is found. tt) object.subtype path.steps parts known).0
+        at_root other = target_at_known types name path parts _ [] path.steps parts tt
+
+    -- those that its indexes read
+    pub target_known : (types : List TypeRow) (name : Name) → AreKnown (names_on_way (resolved_target types regions name).way)
+    target_known types name =
+        target_of_known types (resolved_name regions name.path.root) name.path (map (resolved_in (in_code types) regions) name.parts) (denoted regions name.path.root.text) refl
+        (all_resolved_hold ReadsKnown (λ part. ⊤) types (λ x is. tt) (λ x fields is found. tt) regions (forms_keep types) (in_code types) refl name.parts)
+
+-- ---- the root of a target
+
+target_at_root : (root : CoreName) (path : Path) (parts : List CoreExpr) (fault : NameFault) (way : List PartStep) (rest : List NameStep) (left : List CoreExpr) → (target_at root path parts fault way rest left).root ≡ root
+target_at_root root path parts fault way [] [] = refl
+target_at_root root path parts fault way rest left = refl
+
+target_of_root : (types : List TypeRow) (word : Identifier) (o : Option Entity) (path : Path) (parts : List CoreExpr) → (target_of types (record { name = word; entity = o }) path parts).root ≡ record { name = word; entity = o }
+target_of_root types word (Some (entity.Variable v object)) path parts =
+    let x = along types object.subtype path.steps parts in
+    target_at_root (record { name = word; entity = Some (entity.Variable v object) }) path parts _ x.way x.rest x.parts
+target_of_root types word other path parts = target_at_root (record { name = word; entity = other }) path parts _ [] path.steps parts
+
+-- is its first identifier, with what this denotes
+pub target_root : (types : List TypeRow) (regions : Regions) (name : Name) → (resolved_target types regions name).root ≡ resolved_name regions name.path.root
+target_root types regions name = target_of_root types name.path.root (denoted regions name.path.root.text) name.path (map (resolved_in (in_code types) regions) name.parts)

@@ -1,7 +1,7 @@
 -- The names of a subprogram denote the variables that it declares, each with what is declared of it.
-use Rattle.std.proofs.Common.{◌≡◌, ℕ, ◌+◌, Bool, true, false, ◌||◌, List, [], ◌∷◌, ◌++◌, length, map, Option, Some, None, option_map, is_some, refl, sym, ap, ap₂, subst, ◌∙◌, ⊎_elim, append-nil, append_assoc, length-append, ◌≤◌, take, drop, inl, inr, arith}
+use Rattle.std.proofs.Common.{◌≡◌, ℕ, ◌+◌, Bool, true, false, ◌||◌, List, [], ◌∷◌, ◌++◌, length, map, Option, Some, None, option_map, is_some, refl, sym, ap, ap₂, subst, ◌∙◌, ⊎_elim, append_assoc, length-append, ◌≤◌, take, drop, inl, inr, arith}
 use Rattle.std.specs.Prelude.{⊤, All, ◌&&◌, option_and_then, slice_get, ◌==◌}
-use Rattle.std.specs.List.{AllByRecursion, filter_map, flat_map, list_any}
+use Rattle.std.specs.List.{AllByRecursion, flat_map, list_any}
 use Rattle.std.proofs.lemmas.Bool.{and_parts, false_from_ne_true, or_cases, or_left, or_right, eqb-true}
 use Rattle.std.proofs.lemmas.List.{length-map, map-append, take-append-drop}
 use Rattle.std.proofs.Common.{get_or}
@@ -29,7 +29,11 @@ use Rattle.spx_core.specs.declared.entity.Object.{Object}
 use Rattle.spx_core.specs.declared.entity.Subtype.{Subtype}
 use Rattle.spx_core.specs.declared.name.CoreName.{CoreName}
 use Rattle.spx_core.specs.declared.name.Defining.{Defining}
+use Rattle.spx_core.specs.declared.entity.TypeId.{TypeId}
+use Rattle.spx_core.specs.declared.name.Reference.{Reference}
+use Rattle.spx_core.specs.declared.part.PartStep.{PartStep}
 use Rattle.spx_core.specs.declared.part.Target.{Target}
+use Rattle.spx_core.specs.declared.program.TypeForm.{TypeForm}
 use Rattle.spx_core.specs.declared.expression.CoreExpr.{CoreExpr}
 use Rattle.spx_core.specs.declared.statement.CoreStmt.{CoreStmt}
 use Rattle.spx_core.specs.declared.statement.CoreArm.{CoreArm}
@@ -46,18 +50,19 @@ use Rattle.spx_core.specs.declared.subprogram.CorePredicate.{CorePredicate}
 use Rattle.spx_core.specs.declared.subprogram.Sub.{Sub}
 use Rattle.spx_core.specs.Commands.{Command, Skip, Set, Then, Choose, Select, Assertion, Repeat, Leave, Tested, Counted, Endless, Alternatives, Last, When, alternatives_of, arm_before, arms_before, command, commands, leaves, select}
 use Rattle.spx_core.specs.Commands as commands_of
-use Rattle.spx_core.specs.Parts.{IsAsFormed, parts_in, parts_in_bounds, parts_on_way}
-use Rattle.spx_core.specs.Reads.{names_on_way, names_read}
-use Rattle.spx_core.specs.Uses.{denotes, mentions, uses, is_same}
+use Rattle.spx_core.specs.NamedParts.{form_in}
+use Rattle.spx_core.specs.Parts.{IsAsFormed, form_at, parts_in, parts_in_bounds, parts_on_way}
+use Rattle.spx_core.specs.Reads.{names_on_way, names_read, whole_read}
+use Rattle.spx_core.specs.Uses.{denotes, mentions, is_same}
 use Rattle.spx_core.specs.Dependency.{items_of}
 use Rattle.spx_core.specs.Mirror.DerivesItems.{has_export, has_import}
 use Rattle.spx_core.specs.Formals.{is_formal, is_local, mode_in, mode_of, stands_in, inner, is_inner, is_loop_parameter}
-use Rattle.spx_core.specs.Effects.{Effect, Read, chosen, counts, effect, effect_among, is_read, read_of, reads, reads_assigned, reads_of, sets, assigns, reads_in, reads_of_range}
+use Rattle.spx_core.specs.Effects.{Effect, Read, chosen, counts, effect, effect_among, is_read, reads, reads_assigned, reads_of, sets, assigns, reads_in, reads_of_range}
 use Rattle.spx_core.specs.Obeyed.{mode_denoted}
 use Rattle.spx_core.specs.Regions.{Region, Regions}
-use Rattle.spx_core.specs.Resolved.{after_formals, around_body, at_start, counted_sub, Counts, declaring, declaring_all, exported_names, formal_names, items_for, local_names, local_variables, own_types, own_vars, resolved_derives, resolved_expr, resolved_in, resolved_item, resolved_predicate, resolved_reference, resolved_sub, resolved_subs, resolved_target, standard_types, unit_name, var_of, around_names, declared_by_count, loop_names, object_of, positions, resolved_choice, resolved_count, resolved_range, resolved_condition, type_named}
+use Rattle.spx_core.specs.Resolved.{after_formals, around_body, at_start, counted_sub, Before, Scene, in_annotation, in_code, next_type, type_of_target, declaring, declaring_all, exported_names, formal_names, items_for, local_names, local_variables, own_types, own_vars, resolved_derives, resolved_expr, resolved_in, resolved_item, resolved_predicate, resolved_reference, resolved_sub, resolved_subs, resolved_target, standard_types, unit_name, var_of, around_names, declared_by_count, loop_names, object_of, positions, resolved_choice, resolved_count, resolved_range, resolved_condition, type_named}
 use Rattle.spx_core.proofs.ContextLaws.{reads_in_context}
-use Rattle.spx_core.proofs.Partless.{no_parts_in_context}
+use Rattle.spx_core.proofs.FormedNames.{formed_in_context, front_form, target_formed}
 use Rattle.spx_core.proofs.Positions.{AllFrom, each_from}
 use Rattle.spx_core.specs.Contexts.{in_context}
 use Rattle.spx_core.specs.declared.rule.ExprType.{ExprType}
@@ -68,10 +73,10 @@ use Rattle.spx_core.specs.Erased.{Visible, erased}
 use Rattle.spx_core.specs.Scopes.{AllAreAsDeclared, AllAreAsFormed, AllHaveTheirModes, AreAsDeclared, AreAsFormed, HasItsMode, HaveTheirModes, IsAsDeclared, Scoped, TargetsHaveTheirModes, kind_of, object_declared, object_in, IsInnerKind, LoopsDiffer, names_in_bounds}
 use Rattle.spx_core.proofs.Callers.Pairs.{exports_are, imports_are}
 use Rattle.spx_core.proofs.Callers.ListTests.{each_append, some_mapped, each_split}
-use Rattle.spx_core.proofs.Callers.FlowLaws.{assigns_chosen, counts_chosen, reads_chosen, reads_uses, sets_by}
+use Rattle.spx_core.proofs.Callers.FlowLaws.{assigns_chosen, counts_chosen, reads_assigned_uses, reads_chosen, reads_uses, sets_by}
 use Rattle.spx_core.proofs.Callers.Variables.{same_var}
 use Rattle.spx_core.proofs.Callers.CommandForms.{command-Null, command-Assignment, command-If, command-If-else, command-Case, command-While, command-For, command-Endless, command-Assertion, command-Exit, command_arm, command_alternative}
-use Rattle.spx_core.proofs.RegionLaws.{AllHold, HasRow, Holds, HoldsIn, around_holds, inside_holds, mentioned_variable, predefined_have_rows, read_known, reference_variable, root_holds, used_variable, declaring_all_holds, hidden_holds}
+use Rattle.spx_core.proofs.RegionLaws.{AllHold, AreKnown, known_variable, target_known, target_root, HasRow, Holds, HoldsIn, around_holds, inside_holds, mentioned_variable, predefined_have_rows, read_known, reference_variable, root_holds, declaring_all_holds, hidden_holds}
 use Rattle.spx_core.proofs.ResolvedParts.{IsStmt, null, assignment, if_then, if_else, case_of, loop, assertion, exit, IsArm, arm, IsAlternative, alternative, AreStmts, no_stmts, more_stmts, AreArms, no_arms, more_arms, AreAlternatives, no_alternatives, more_alternatives, stmts_are}
 use Rattle.spx_core.proofs.Consecutive.{Any, Consecutive, Known, positions_differ, IsFormal, IsLocal, at_position, decls_known, first_positions, formals_consecutive, formals_known, is_at, last_positions, rows, IsLocalKind, IsLoopParameter, consecutive_known, stmts_consecutive}
 
@@ -98,14 +103,14 @@ mode_is p v kind is = mode_in_row kind (slice_get p.vars v.0) is
 -- ---- names of annotations and of statements
 
 -- one thing holds of the types, and one of the variables, that regions declare
-module _ (T : Subtype → Type 0) (P : VarId → Object → Type 0) where
+module _ (table : List TypeRow) (T : Subtype → Type 0) (P : VarId → Object → Type 0) where
   -- a target is what some name is in such regions
   abbrev IsTarget : Target → Type 0
-  IsTarget target = (regions : Regions) × (name : Name) × AllByRecursion (HoldsIn T P) regions × (target ≡ resolved_target regions name)
+  IsTarget target = (regions : Regions) × (name : Name) × AllByRecursion (HoldsIn T P) regions × (target ≡ resolved_target table regions name)
 
-  -- a value is what some expression is there, whatever type it meets and whichever items say of what values on entry may be named
+  -- a value is what some expression is there, whatever type it meets, where these types are declared
   abbrev IsValue : CoreExpr → Type 0
-  IsValue value = (type : ExprType) × (regions : Regions) × (items : List CoreDerivesItem) × (e : Expr) × AllByRecursion (HoldsIn T P) regions × (value ≡ in_context type (resolved_in items regions e))
+  IsValue value = (type : ExprType) × (regions : Regions) × (scene : Scene) × (e : Expr) × AllByRecursion (HoldsIn T P) regions × (value ≡ in_context type (resolved_in scene regions e)) × (scene.types ≡ table)
 
   abbrev AreValues : Option CoreRange → Type 0
   AreValues None = ⊤
@@ -130,26 +135,28 @@ module _ (T : Subtype → Type 0) (P : VarId → Object → Type 0) where
     AllResolve low (Last choices a) = Resolves low a
     AllResolve low (When choices a rest) = Resolves low a × AllResolve low rest
 
-  -- a target has no parts, so that only the value is read
-  assigned_reads : (target : Target) (value : CoreExpr) → IsTarget target → reads_assigned target value ≡ reads_of value
-  assigned_reads target value written = ap (λ (t : Target). reads_assigned t value) written.3 ∙ ap (filter_map read_of) (append-nil (names_read value))
+  value_known : (value : CoreExpr) → (written : IsValue value) → AreKnown T P written.1 written.4 (names_read value)
+  value_known value written =
+      let named = resolved_in written.2 written.1 written.3 in
+      subst (λ (e : CoreExpr). AreKnown T P written.1 written.4 (names_read e)) (sym written.5)
+      (subst (AreKnown T P written.1 written.4) (sym (reads_in_context written.0 named)) (read_known T P written.1 written.4 written.2 written.3))
 
-  bounds_are_values : (type : ExprType) (regions : Regions) → AllByRecursion (HoldsIn T P) regions → (bounds : Option Range) → AreValues (option_map (resolved_range type regions) bounds)
+  bounds_are_values : (type : ExprType) (regions : Regions) → AllByRecursion (HoldsIn T P) regions → (bounds : Option Range) → AreValues (option_map (resolved_range (in_code table) type regions) bounds)
   bounds_are_values type regions all None = tt
-  bounds_are_values type regions all (Some range) = ((type, regions, [], range.low, all, refl), (type, regions, [], range.high, all, refl))
+  bounds_are_values type regions all (Some range) = ((type, regions, in_code table, range.low, all, refl, refl), (type, regions, in_code table, range.high, all, refl, refl))
 
   -- ---- so it is with the commands of resolved statements
 
   module _ (items : List CoreDerivesItem) (outer : Regions) (known : AllByRecursion (HoldsIn T P) outer) where
-    abbrev condition_in : (region : Region) → HoldsIn T P region → (e : Expr) → IsValue (resolved_condition [] (region ∷ outer) e)
-    condition_in region own e = (Of INTEGER.base, region ∷ outer, [], e, (own, known), refl)
+    abbrev condition_in : (region : Region) → HoldsIn T P region → (e : Expr) → IsValue (resolved_condition (in_code table) (region ∷ outer) e)
+    condition_in region own e = (Of INTEGER.base, region ∷ outer, in_code table, e, (own, known), refl, refl)
 
     mutual
-      stmt_resolves : (low : ℕ) {region : Region} {position : ℕ} {s : Stmt} {c : CoreStmt} {ds : List Defining} → IsStmt items outer region position s c ds → low ≤ position → HoldsIn T P region → AllHold T P ds → Resolves low (command c)
+      stmt_resolves : (low : ℕ) {region : Region} {position : ℕ} {s : Stmt} {c : CoreStmt} {ds : List Defining} → IsStmt table items outer region position s c ds → low ≤ position → HoldsIn T P region → AllHold T P ds → Resolves low (command c)
       stmt_resolves low (null region position place) at own all = subst (Resolves low) (sym (command-Null place)) tt
       stmt_resolves low (assignment region position target value) at own all =
-          subst (Resolves low) (sym (command-Assignment (resolved_target (region ∷ outer) target) (resolved_expr (type_named (region ∷ outer) target) (region ∷ outer) value)))
-          ((region ∷ outer, target, (own, known), refl), (type_named (region ∷ outer) target, region ∷ outer, [], value, (own, known), refl))
+          subst (Resolves low) (sym (command-Assignment (resolved_target table (region ∷ outer) target) (resolved_expr (in_code table) (type_of_target (resolved_target table (region ∷ outer) target)) (region ∷ outer) value)))
+          ((region ∷ outer, target, (own, known), refl), (type_of_target (resolved_target table (region ∷ outer) target), region ∷ outer, in_code table, value, (own, known), refl, refl))
       stmt_resolves low (if_then region position arms closing cores ds are) at own all =
           subst (Resolves low) (sym (command-If (stmt.If cores None closing) cores None closing refl refl)) (arms_resolve low are at own all Skip tt)
       stmt_resolves low (if_else region position arms stmts closing cores body ds es are others) at own all =
@@ -157,14 +164,14 @@ module _ (T : Subtype → Type 0) (P : VarId → Object → Type 0) where
           subst (Resolves low) (sym (command-If-else (stmt.If cores (Some body) closing) cores (Some body) body closing refl refl))
           (arms_resolve low are at own parts.0 (commands body) (stmts_resolve low others (omega (arith, at)) own parts.1))
       stmt_resolves low (case_of region position place selector alternatives closing cores ds are) at own all =
-          let value = resolved_condition [] (region ∷ outer) selector in
+          let value = resolved_condition (in_code table) (region ∷ outer) selector in
           subst (Resolves low) (sym (command-Case (stmt.Case place value cores closing) place value cores closing refl)) (select_resolves low place value (condition_in region own selector) are at own all)
       stmt_resolves low (loop region position (scheme.While place condition) word stmts closing body ds are) at own all =
-          let value = resolved_condition [] (region ∷ outer) condition in
+          let value = resolved_condition (in_code table) (region ∷ outer) condition in
           let x = core_scheme.While place value in
           subst (Resolves low) (sym (command-While (stmt.Loop x word body closing) x word body closing place value refl refl)) (condition_in region own condition, stmts_resolve low are (omega (arith, at)) own all)
       stmt_resolves low (loop region position (scheme.For written) word stmts closing body ds are) at own all =
-          let c = resolved_count outer region position written in
+          let c = resolved_count (in_code table) outer region position written in
           let x = core_scheme.For c in
           let d = declared_by_count c in
           let around = around_names outer region (written.name ∷ []) in
@@ -175,28 +182,28 @@ module _ (T : Subtype → Type 0) (P : VarId → Object → Type 0) where
           subst (Resolves low) (sym (command-Endless (stmt.Loop core_scheme.Endless word body closing) core_scheme.Endless word body closing refl refl)) (stmts_resolve low are (omega (arith, at)) own all)
       stmt_resolves low (exit region position place None) at own all = subst (Resolves low) (sym (command-Exit place None)) tt
       stmt_resolves low (exit region position place (Some condition)) at own all =
-          subst (Resolves low) (sym (command-Exit place (Some (resolved_condition [] (region ∷ outer) condition)))) (condition_in region own condition, tt, tt)
+          subst (Resolves low) (sym (command-Exit place (Some (resolved_condition (in_code table) (region ∷ outer) condition)))) (condition_in region own condition, tt, tt)
       stmt_resolves low (assertion region position kind place condition) at own all =
-          subst (Resolves low) (sym (command-Assertion kind place (resolved_condition items (region ∷ outer) condition))) (Of INTEGER.base, region ∷ outer, items, condition, (own, known), refl)
+          subst (Resolves low) (sym (command-Assertion kind place (resolved_condition (in_annotation table items) (region ∷ outer) condition))) (Of INTEGER.base, region ∷ outer, in_annotation table items, condition, (own, known), refl, refl)
 
-      arm_resolves : (low : ℕ) {region : Region} {position : ℕ} {a : Arm} {c : CoreArm} {ds : List Defining} → IsArm items outer region position a c ds → low ≤ position → HoldsIn T P region → AllHold T P ds
+      arm_resolves : (low : ℕ) {region : Region} {position : ℕ} {a : Arm} {c : CoreArm} {ds : List Defining} → IsArm table items outer region position a c ds → low ≤ position → HoldsIn T P region → AllHold T P ds
           → (otherwise : Command) → Resolves low otherwise → Resolves low (arm_before c otherwise)
       arm_resolves low (arm region position place condition stmts body ds are) at own all otherwise rest =
-          subst (Resolves low) (sym (command_arm (record { place = place; condition = resolved_condition [] (region ∷ outer) condition; body = body }) otherwise)) (condition_in region own condition, stmts_resolve low are at own all, rest)
+          subst (Resolves low) (sym (command_arm (record { place = place; condition = resolved_condition (in_code table) (region ∷ outer) condition; body = body }) otherwise)) (condition_in region own condition, stmts_resolve low are at own all, rest)
 
-      alternative_resolves : (low : ℕ) {region : Region} {position : ℕ} {a : Alternative} {c : CoreAlternative} {ds : List Defining} → IsAlternative items outer region position a c ds → low ≤ position → HoldsIn T P region → AllHold T P ds
+      alternative_resolves : (low : ℕ) {region : Region} {position : ℕ} {a : Alternative} {c : CoreAlternative} {ds : List Defining} → IsAlternative table items outer region position a c ds → low ≤ position → HoldsIn T P region → AllHold T P ds
           → Resolves low (commands_of.alternative c).1
       alternative_resolves low (alternative region position choices stmts body ds are) at own all =
-          subst (Resolves low) (sym (command_alternative (record { choices = option_map (map (resolved_choice (region ∷ outer))) choices; body = body }))) (stmts_resolve low are at own all)
+          subst (Resolves low) (sym (command_alternative (record { choices = option_map (map (resolved_choice (in_code table) (region ∷ outer))) choices; body = body }))) (stmts_resolve low are at own all)
 
-      stmts_resolve : (low : ℕ) {region : Region} {position : ℕ} {stmts : List Stmt} {cores : List CoreStmt} {ds : List Defining} → AreStmts items outer region position stmts cores ds → low ≤ position → HoldsIn T P region → AllHold T P ds
+      stmts_resolve : (low : ℕ) {region : Region} {position : ℕ} {stmts : List Stmt} {cores : List CoreStmt} {ds : List Defining} → AreStmts table items outer region position stmts cores ds → low ≤ position → HoldsIn T P region → AllHold T P ds
           → Resolves low (commands cores)
       stmts_resolve low (no_stmts region position) at own all = tt
       stmts_resolve low (more_stmts region position s stmts c cores ds es first rest) at own all =
           let parts = each_split (λ (d : Defining). Holds T P (Some d.entity)) ds es all in
           (stmt_resolves low first at own parts.0, stmts_resolve low rest (omega (arith, at)) own parts.1)
 
-      arms_resolve : (low : ℕ) {region : Region} {position : ℕ} {arms : List Arm} {cores : List CoreArm} {ds : List Defining} → AreArms items outer region position arms cores ds → low ≤ position → HoldsIn T P region → AllHold T P ds
+      arms_resolve : (low : ℕ) {region : Region} {position : ℕ} {arms : List Arm} {cores : List CoreArm} {ds : List Defining} → AreArms table items outer region position arms cores ds → low ≤ position → HoldsIn T P region → AllHold T P ds
           → (otherwise : Command) → Resolves low otherwise → Resolves low (arms_before otherwise (map arm_before cores))
       arms_resolve low (no_arms region position) at own all otherwise last = last
       arms_resolve low (more_arms region position a arms c cores ds es first rest) at own all otherwise last =
@@ -204,7 +211,7 @@ module _ (T : Subtype → Type 0) (P : VarId → Object → Type 0) where
           arm_resolves low first at own parts.0 (arms_before otherwise (map arm_before cores)) (arms_resolve low rest (omega (arith, at)) own parts.1 otherwise last)
 
       -- what comes first is known
-      alternatives_resolve : (low : ℕ) {region : Region} {position : ℕ} {alternatives : List Alternative} {cores : List CoreAlternative} {ds : List Defining} → AreAlternatives items outer region position alternatives cores ds → low ≤ position
+      alternatives_resolve : (low : ℕ) {region : Region} {position : ℕ} {alternatives : List Alternative} {cores : List CoreAlternative} {ds : List Defining} → AreAlternatives table items outer region position alternatives cores ds → low ≤ position
           → HoldsIn T P region → AllHold T P ds → (chosen : Option (List CoreChoice) × Command) → Resolves low chosen.1 → AllResolve low (alternatives_of chosen (map commands_of.alternative cores))
       alternatives_resolve low (no_alternatives region position) at own all chosen before = before
       alternatives_resolve low (more_alternatives region position a alternatives c cores ds es first rest) at own all chosen before =
@@ -212,7 +219,7 @@ module _ (T : Subtype → Type 0) (P : VarId → Object → Type 0) where
           (before, alternatives_resolve low rest (omega (arith, at)) own parts.1 (commands_of.alternative c) (alternative_resolves low first at own parts.0))
 
       select_resolves : (low : ℕ) (place : Place) (selector : CoreExpr) → IsValue selector → {region : Region} {position : ℕ} {alternatives : List Alternative} {cores : List CoreAlternative} {ds : List Defining}
-          → AreAlternatives items outer region position alternatives cores ds → low ≤ position → HoldsIn T P region → AllHold T P ds → Resolves low (select place selector (map commands_of.alternative cores))
+          → AreAlternatives table items outer region position alternatives cores ds → low ≤ position → HoldsIn T P region → AllHold T P ds → Resolves low (select place selector (map commands_of.alternative cores))
       select_resolves low place selector value (no_alternatives region position) at own all = tt
       select_resolves low place selector value (more_alternatives region position a alternatives c cores ds es first rest) at own all =
           let parts = each_split (λ (d : Defining). Holds T P (Some d.entity)) ds es all in
@@ -236,8 +243,34 @@ module _ (T : Subtype → Type 0) (P : VarId → Object → Type 0) where
   module _ (v : VarId) where
     value_variable : (value : CoreExpr) → IsValue value → is_read v (reads_of value) ≡ true → (object : Object) × P v object
     value_variable value written h =
-        let reads = ap (list_any (denotes v)) (reads_in_context written.0 (resolved_in written.2 written.1 written.3)) in
-        used_variable T P written.1 written.4 written.2 v written.3 (sym reads ∙ ap (uses v) (sym written.5) ∙ sym (reads_uses v value) ∙ h)
+        known_variable T P written.1 written.4 v (names_read value) (value_known value written) (sym (reads_uses v value) ∙ h)
+
+    -- the names that an assignment reads: in indexes, in the right side, and, to a part, the whole
+    way_variable : (target : Target) → IsTarget target → list_any (denotes v) (names_on_way target.way) ≡ true → (object : Object) × P v object
+    way_variable target written h =
+        let known = subst (λ (t : Target). AreKnown T P written.0 written.2 (names_on_way t.way)) (sym written.3) (target_known T P written.0 written.2 table written.1) in
+        known_variable T P written.0 written.2 v (names_on_way target.way) known h
+
+    root_variable : (target : Target) → IsTarget target → denotes v target.root ≡ true → (object : Object) × P v object
+    root_variable target written h =
+        let root = sym (target_root table written.0 written.1) ∙ ap (λ (t : Target). t.root) (sym written.3) in
+        let known = reference_variable T P written.0 written.2 v written.1 (ap (denotes v) root ∙ h) in
+        (known.0, known.2)
+
+    whole_variable : (target : Target) → IsTarget target → (way : List PartStep) → target.way ≡ way → list_any (denotes v) (whole_read target) ≡ true → (object : Object) × P v object
+    whole_variable target written [] is h = let none : list_any (denotes v) (whole_read (record { root = target.root; way = []; faulty = target.faulty })) ≡ true = ap (λ (w : List PartStep). list_any (denotes v) (whole_read (record { root = target.root; way = w; faulty = target.faulty }))) (sym is) ∙ h in absurd cc
+    whole_variable target written (s ∷ way) is h =
+        let one : (denotes v target.root || false) ≡ true = ap (λ (w : List PartStep). list_any (denotes v) (whole_read (record { root = target.root; way = w; faulty = target.faulty }))) (sym is) ∙ h in
+        ⊎_elim (root_variable target written) (λ no. absurd cc) (or_cases (denotes v target.root) false one)
+
+    assigned_reads : (target : Target) (value : CoreExpr) → IsTarget target → IsValue value → is_read v (reads_assigned target value) ≡ true → (object : Object) × P v object
+    assigned_reads target value place written h =
+        let way = names_on_way target.way in
+        let all : (list_any (denotes v) way || list_any (denotes v) (names_read value ++ whole_read target)) ≡ true = sym (list_any-append (denotes v) way (names_read value ++ whole_read target)) ∙ sym (reads_assigned_uses v target value) ∙ h in
+        ⊎_elim (way_variable target place)
+        (λ rest. ⊎_elim (λ read. value_variable value written (reads_uses v value ∙ read)) (whole_variable target place target.way refl)
+        (or_cases (list_any (denotes v) (names_read value)) (list_any (denotes v) (whole_read target)) (sym (list_any-append (denotes v) (names_read value) (whole_read target)) ∙ rest)))
+        (or_cases (list_any (denotes v) way) (list_any (denotes v) (names_read value ++ whole_read target)) all)
 
     bounds_variable : (bounds : Option CoreRange) → AreValues bounds → is_read v (reads_in (option_map reads_of_range bounds)) ≡ true → (object : Object) × P v object
     bounds_variable None written h = absurd cc
@@ -277,7 +310,7 @@ module _ (T : Subtype → Type 0) (P : VarId → Object → Type 0) where
       assigned_variable : (low : ℕ) (c : Command) → Resolves low c → assigns v (effect c) ≡ true → (object : Object) × P v object
       assigned_variable low Skip written h = absurd cc
       assigned_variable low (Set target value) written h =
-          let known = reference_variable T P written.0.0 written.0.2 v written.0.1 (ap (λ (t : Target). denotes v t.root) (sym written.0.3) ∙ h) in (known.0, known.2)
+          root_variable target written.0 h
       assigned_variable low (Then a b) written h = ⊎_elim (assigned_variable low a written.0) (assigned_variable low b written.1) (or_cases (assigns v (effect a)) (assigns v (effect b)) h)
       assigned_variable low (Choose place condition a b) written h =
           ⊎_elim (assigned_variable low a written.1) (assigned_variable low b written.2) (or_cases (assigns v (effect a)) (assigns v (effect b)) (sym (assigns_chosen v (leaves a) (reads_of condition) (effect a) (effect b) place) ∙ h))
@@ -300,7 +333,7 @@ module _ (T : Subtype → Type 0) (P : VarId → Object → Type 0) where
     mutual
       read_variable : (low : ℕ) (c : Command) → Resolves low c → reads v (effect c) ≡ true → (object : Object) × P v object
       read_variable low Skip written h = absurd cc
-      read_variable low (Set target value) written h = value_variable value written.1 (ap (is_read v) (sym (assigned_reads target value written.0)) ∙ h)
+      read_variable low (Set target value) written h = assigned_reads target value written.0 written.1 h
       read_variable low (Then a b) written h = ⊎_elim (read_variable low a written.0) (read_variable low b written.1) (or_cases (reads v (effect a)) (reads v (effect b)) h)
       read_variable low (Choose place condition a b) written h =
           ⊎_elim (value_variable condition written.0)
@@ -355,14 +388,15 @@ module _ (T : Subtype → Type 0) (P : VarId → Object → Type 0) where
 
 -- ---- what is declared of the variables that names denote
 
-module _ (p : Program) (T : Subtype → Type 0) (P : VarId → Object → Type 0) (row : (v : VarId) (object : Object) → P v object → object_declared p v ≡ Some object) where
-  has_its_mode : (regions : Regions) → AllByRecursion (HoldsIn T P) regions → (name : Name) → HasItsMode p (resolved_reference regions name)
+module _ (p : Program) (table : List TypeRow) (within : (id : TypeId) (f : TypeForm) → form_in table id ≡ Some f → form_at p id ≡ Some f) (T : Subtype → Type 0) (P : VarId → Object → Type 0)
+    (row : (v : VarId) (object : Object) → P v object → object_declared p v ≡ Some object) where
+  has_its_mode : (regions : Regions) → AllByRecursion (HoldsIn T P) regions → (name : Name) → HasItsMode p (resolved_reference regions name).root
   has_its_mode regions all name v is =
       let known = reference_variable T P regions all v name is in
       ap mode_denoted known.1 ∙ sym (mode_is p v known.0.kind (kind_is p v known.0 (row v known.0 known.2)))
 
-  have_their_modes : (regions : Regions) → AllByRecursion (HoldsIn T P) regions → (names : List Name) → All (HasItsMode p) (map (resolved_reference regions) names)
-  have_their_modes regions all names = All-map (HasItsMode p) (resolved_reference regions) names (λ k d less. has_its_mode regions all _)
+  have_their_modes : (regions : Regions) → AllByRecursion (HoldsIn T P) regions → (names : List Name) → All (λ (name : Reference). HasItsMode p name.root) (map (resolved_reference regions) names)
+  have_their_modes regions all names = All-map (λ (name : Reference). HasItsMode p name.root) (resolved_reference regions) names (λ k d less. has_its_mode regions all (get_or names k d))
 
   relation_has_modes : (regions : Regions) → AllByRecursion (HoldsIn T P) regions → (derives : Option Derives) → All (HaveTheirModes p) (items_of (option_map (resolved_derives regions) derives))
   relation_has_modes regions all None = All-from_recursion (HaveTheirModes p) [] tt
@@ -371,10 +405,10 @@ module _ (p : Program) (T : Subtype → Type 0) (P : VarId → Object → Type 0
       (λ k d less. let item = get_or derives.items k d in (have_their_modes regions all (exported_names item.exports), have_their_modes regions all item.imports.names))
 
   mutual
-    targets_have_modes : (low : ℕ) (c : Command) → Resolves T P low c → TargetsHaveTheirModes p c
+    targets_have_modes : (low : ℕ) (c : Command) → Resolves table T P low c → TargetsHaveTheirModes p c
     targets_have_modes low Skip written = tt
     targets_have_modes low (Set target value) written =
-        subst (λ (t : Target). HasItsMode p (record { root = t.root; way = t.rest })) (sym written.0.3) (has_its_mode written.0.0 written.0.2 written.0.1)
+        subst (HasItsMode p) (sym (ap (λ (t : Target). t.root) written.0.3 ∙ target_root table written.0.0 written.0.1)) (has_its_mode written.0.0 written.0.2 written.0.1)
     targets_have_modes low (Then a b) written = (targets_have_modes low a written.0, targets_have_modes low b written.1)
     targets_have_modes low (Choose place condition a b) written = (targets_have_modes low a written.1, targets_have_modes low b written.2)
     targets_have_modes low (Select place selector alternatives) written = all_have_modes low alternatives written.1
@@ -384,7 +418,7 @@ module _ (p : Program) (T : Subtype → Type 0) (P : VarId → Object → Type 0
     targets_have_modes low (Repeat (Tested place condition) body) written = targets_have_modes low body written.1
     targets_have_modes low (Repeat (Counted c) body) written = targets_have_modes (c.parameter.0 + 1) body written.3
 
-    all_have_modes : (low : ℕ) (alternatives : Alternatives) → AllResolve T P low alternatives → AllHaveTheirModes p alternatives
+    all_have_modes : (low : ℕ) (alternatives : Alternatives) → AllResolve table T P low alternatives → AllHaveTheirModes p alternatives
     all_have_modes low (Last choices a) written = targets_have_modes low a written
     all_have_modes low (When choices a rest) written = (targets_have_modes low a written.0, all_have_modes low rest written.1)
 
@@ -395,24 +429,24 @@ module _ (p : Program) (T : Subtype → Type 0) (P : VarId → Object → Type 0
   all_as_declared [] known = tt
   all_as_declared (name ∷ names) known = (as_declared name known.0, all_as_declared names known.1)
 
-  read_as_declared : (value : CoreExpr) → IsValue T P value → All (IsAsDeclared p) (names_read value)
-  read_as_declared value written =
-      let named = resolved_in written.2 written.1 written.3 in
-      subst (λ e. All (IsAsDeclared p) (names_read e)) (sym written.5)
-      (subst (λ names. All (IsAsDeclared p) names) (sym (reads_in_context written.0 named)) (All-from_recursion (IsAsDeclared p) _ (all_as_declared (names_read named) (read_known T P written.1 written.4 written.2 written.3))))
+  read_as_declared : (value : CoreExpr) → IsValue table T P value → All (IsAsDeclared p) (names_read value)
+  read_as_declared value written = All-from_recursion (IsAsDeclared p) _ (all_as_declared (names_read value) (value_known table T P value written))
 
-  bounds_as_declared : (bounds : Option CoreRange) → AreValues T P bounds → All (IsAsDeclared p) (names_in_bounds bounds)
+  bounds_as_declared : (bounds : Option CoreRange) → AreValues table T P bounds → All (IsAsDeclared p) (names_in_bounds bounds)
   bounds_as_declared None written = All-from_recursion (IsAsDeclared p) [] tt
   bounds_as_declared (Some range) written = All-append (IsAsDeclared p) (names_read range.low) (names_read range.high) (read_as_declared range.low written.0) (read_as_declared range.high written.1)
 
-  target_as_declared : (target : Target) → IsTarget T P target → IsAsDeclared p target.root
-  target_as_declared target written = subst (λ (t : Target). IsAsDeclared p t.root) (sym written.3) (as_declared (resolved_reference written.0 written.1).root (root_holds T P written.0 written.2 written.1))
+  target_as_declared : (target : Target) → IsTarget table T P target → IsAsDeclared p target.root
+  target_as_declared target written =
+      subst (IsAsDeclared p) (sym (ap (λ (t : Target). t.root) written.3 ∙ target_root table written.0 written.1)) (as_declared (resolved_reference written.0 written.1).root (root_holds T P written.0 written.2 written.1))
 
-  way_as_declared : (target : Target) → IsTarget T P target → All (IsAsDeclared p) (names_on_way target.way)
-  way_as_declared target written = subst (λ (t : Target). All (IsAsDeclared p) (names_on_way t.way)) (sym written.3) (All-from_recursion (IsAsDeclared p) [] tt)
+  way_as_declared : (target : Target) → IsTarget table T P target → All (IsAsDeclared p) (names_on_way target.way)
+  way_as_declared target written =
+      subst (λ (t : Target). All (IsAsDeclared p) (names_on_way t.way)) (sym written.3)
+      (All-from_recursion (IsAsDeclared p) _ (all_as_declared (names_on_way (resolved_target table written.0 written.1).way) (target_known T P written.0 written.2 table written.1)))
 
   mutual
-    command_as_declared : (low : ℕ) (c : Command) → Resolves T P low c → AreAsDeclared p c
+    command_as_declared : (low : ℕ) (c : Command) → Resolves table T P low c → AreAsDeclared p c
     command_as_declared low Skip written = tt
     command_as_declared low (Set target value) written = (target_as_declared target written.0, (way_as_declared target written.0, read_as_declared value written.1))
     command_as_declared low (Then a b) written = (command_as_declared low a written.0, command_as_declared low b written.1)
@@ -425,26 +459,25 @@ module _ (p : Program) (T : Subtype → Type 0) (P : VarId → Object → Type 0
     command_as_declared low (Repeat (Counted c) body) written =
         ((bounds_as_declared c.bounds written.2, row c.parameter (object_of LoopParameter c.type_name) written.1), command_as_declared (c.parameter.0 + 1) body written.3)
 
-    alternatives_as_declared : (low : ℕ) (alternatives : Alternatives) → AllResolve T P low alternatives → AllAreAsDeclared p alternatives
+    alternatives_as_declared : (low : ℕ) (alternatives : Alternatives) → AllResolve table T P low alternatives → AllAreAsDeclared p alternatives
     alternatives_as_declared low (Last choices a) written = command_as_declared low a written
     alternatives_as_declared low (When choices a rest) written = (command_as_declared low a written.0, alternatives_as_declared low rest written.1)
 
-  -- ---- parts, of which there are none
+  -- ---- parts
 
-  value_as_formed : (value : CoreExpr) → IsValue T P value → All (IsAsFormed p) (parts_in value)
+  value_as_formed : (value : CoreExpr) → IsValue table T P value → All (IsAsFormed p) (parts_in value)
   value_as_formed value written =
-      let none = ap parts_in written.5 ∙ no_parts_in_context written.0 written.2 written.1 written.3 in
-      subst (λ parts. All (IsAsFormed p) parts) (sym none) (All-from_recursion (IsAsFormed p) [] tt)
+      subst (λ (e : CoreExpr). All (IsAsFormed p) (parts_in e)) (sym written.5) (All-from_recursion (IsAsFormed p) _ (formed_in_context p table within written.2 written.6 written.0 written.1 written.3))
 
-  way_as_formed : (target : Target) → IsTarget T P target → All (IsAsFormed p) (parts_on_way target.way)
-  way_as_formed target written = subst (λ (t : Target). All (IsAsFormed p) (parts_on_way t.way)) (sym written.3) (All-from_recursion (IsAsFormed p) [] tt)
+  way_as_formed : (target : Target) → IsTarget table T P target → All (IsAsFormed p) (parts_on_way target.way)
+  way_as_formed target written = subst (λ (t : Target). All (IsAsFormed p) (parts_on_way t.way)) (sym written.3) (All-from_recursion (IsAsFormed p) _ (target_formed p table within written.0 written.1))
 
-  bounds_as_formed : (bounds : Option CoreRange) → AreValues T P bounds → All (IsAsFormed p) (parts_in_bounds bounds)
+  bounds_as_formed : (bounds : Option CoreRange) → AreValues table T P bounds → All (IsAsFormed p) (parts_in_bounds bounds)
   bounds_as_formed None written = All-from_recursion (IsAsFormed p) [] tt
   bounds_as_formed (Some range) written = All-append (IsAsFormed p) (parts_in range.low) (parts_in range.high) (value_as_formed range.low written.0) (value_as_formed range.high written.1)
 
   mutual
-    command_as_formed : (low : ℕ) (c : Command) → Resolves T P low c → AreAsFormed p c
+    command_as_formed : (low : ℕ) (c : Command) → Resolves table T P low c → AreAsFormed p c
     command_as_formed low Skip written = tt
     command_as_formed low (Set target value) written = All-append (IsAsFormed p) (parts_on_way target.way) (parts_in value) (way_as_formed target written.0) (value_as_formed value written.1)
     command_as_formed low (Then a b) written = (command_as_formed low a written.0, command_as_formed low b written.1)
@@ -456,25 +489,25 @@ module _ (p : Program) (T : Subtype → Type 0) (P : VarId → Object → Type 0
     command_as_formed low (Repeat (Tested place condition) body) written = (value_as_formed condition written.0, command_as_formed low body written.1)
     command_as_formed low (Repeat (Counted c) body) written = (bounds_as_formed c.bounds written.2, command_as_formed (c.parameter.0 + 1) body written.3)
 
-    alternatives_as_formed : (low : ℕ) (alternatives : Alternatives) → AllResolve T P low alternatives → AllAreAsFormed p alternatives
+    alternatives_as_formed : (low : ℕ) (alternatives : Alternatives) → AllResolve table T P low alternatives → AllAreAsFormed p alternatives
     alternatives_as_formed low (Last choices a) written = command_as_formed low a written
     alternatives_as_formed low (When choices a rest) written = (command_as_formed low a written.0, alternatives_as_formed low rest written.1)
 
   -- ---- predicates
 
-  predicate_value : (regions : Regions) → AllByRecursion (HoldsIn T P) regions → (items : List CoreDerivesItem) (written : Option Predicate) (predicate : CorePredicate)
-      → option_map (resolved_predicate items regions) written ≡ Some predicate → IsValue T P predicate.condition
-  predicate_value regions all items None predicate is = absurd cc
-  predicate_value regions all items (Some w) predicate is =
-      (Of INTEGER.base, regions, items, w.condition, all, ap (λ (x : CorePredicate). x.condition) (let e : predicate ≡ resolved_predicate items regions w = cc in e))
+  predicate_value : (regions : Regions) → AllByRecursion (HoldsIn T P) regions → (scene : Scene) → scene.types ≡ table → (written : Option Predicate) (predicate : CorePredicate)
+      → option_map (resolved_predicate scene regions) written ≡ Some predicate → IsValue table T P predicate.condition
+  predicate_value regions all scene same None predicate is = absurd cc
+  predicate_value regions all scene same (Some w) predicate is =
+      (Of INTEGER.base, regions, scene, w.condition, all, ap (λ (x : CorePredicate). x.condition) (let e : predicate ≡ resolved_predicate scene regions w = cc in e), same)
 
-  predicate_as_formed : (regions : Regions) → AllByRecursion (HoldsIn T P) regions → (items : List CoreDerivesItem) (written : Option Predicate) (predicate : CorePredicate)
-      → option_map (resolved_predicate items regions) written ≡ Some predicate → All (IsAsFormed p) (parts_in predicate.condition)
-  predicate_as_formed regions all items written predicate is = value_as_formed predicate.condition (predicate_value regions all items written predicate is)
+  predicate_as_formed : (regions : Regions) → AllByRecursion (HoldsIn T P) regions → (scene : Scene) → scene.types ≡ table → (written : Option Predicate) (predicate : CorePredicate)
+      → option_map (resolved_predicate scene regions) written ≡ Some predicate → All (IsAsFormed p) (parts_in predicate.condition)
+  predicate_as_formed regions all scene same written predicate is = value_as_formed predicate.condition (predicate_value regions all scene same written predicate is)
 
-  predicate_as_declared : (regions : Regions) → AllByRecursion (HoldsIn T P) regions → (items : List CoreDerivesItem) (written : Option Predicate) (predicate : CorePredicate)
-      → option_map (resolved_predicate items regions) written ≡ Some predicate → All (IsAsDeclared p) (names_read predicate.condition)
-  predicate_as_declared regions all items written predicate is = read_as_declared predicate.condition (predicate_value regions all items written predicate is)
+  predicate_as_declared : (regions : Regions) → AllByRecursion (HoldsIn T P) regions → (scene : Scene) → scene.types ≡ table → (written : Option Predicate) (predicate : CorePredicate)
+      → option_map (resolved_predicate scene regions) written ≡ Some predicate → All (IsAsDeclared p) (names_read predicate.condition)
+  predicate_as_declared regions all scene same written predicate is = read_as_declared predicate.condition (predicate_value regions all scene same written predicate is)
 
 -- ---- what is declared in a body
 
@@ -502,7 +535,7 @@ type_count sub = length (own_types sub)
 
 module _ (p : Program) (more : List TypeRow) (types : p.types ≡ standard_types ++ more) where
   -- the unit at this position, whose variables and types stand between these rows
-  module _ (library : Region) (position : ℕ) (start : Counts) (s : Subprogram) (before after : List Var) (len : length before ≡ start.vars) where
+  module _ (library : Region) (position : ℕ) (start : Before) (s : Subprogram) (before after : List Var) (len : length before ≡ start.vars) where
     abbrev first : ℕ
     first = start.vars
 
@@ -561,7 +594,7 @@ module _ (p : Program) (more : List TypeRow) (types : p.types ≡ standard_types
     abbrev Own : VarId → Object → Type 0
     Own v object = ((is_formal v sub || is_inner v sub) ≡ true) × (object_declared p v ≡ Some object) × (object.kind ≡ LoopParameter → is_loop_parameter v sub ≡ true)
 
-    module _ (vars : p.vars ≡ before ++ (own_vars sub ++ after)) (front back : List TypeRow) (count : length (standard_types ++ front) ≡ start.types) (rows_are : more ≡ front ++ (own_types sub ++ back)) where
+    module _ (vars : p.vars ≡ before ++ (own_vars sub ++ after)) (front back : List TypeRow) (count : standard_types ++ front ≡ start.types) (rows_are : more ≡ front ++ (own_types sub ++ back)) where
       names_known : Known more (first + length its_formals) its_locals its_names
       names_known = decls_known more (around_body name) (around_holds (HasRow more) Any (predefined_have_rows more) name tt) (declaring_all [] its_formals) (after_formals start sub.formal_part) s.declarations front back (formals_known (HasRow more) (IsFormal more) first its_formals formals_are) (count, rows_are)
 
@@ -573,13 +606,27 @@ module _ (p : Program) (more : List TypeRow) (types : p.types ≡ standard_types
           declaring_all_holds (HasRow more) Any [] (its_formals ++ its_names) tt
           (each_append _ its_formals its_names (consecutive_known (HasRow more) (IsFormal more) first its_formals formals_are) (names_known.holds Any (consecutive_known (HasRow more) (IsLocal more) (first + length its_formals) its_locals locals_are)))
 
-      its_parts : AreStmts its_items (around_body name) (declaring_all [] (its_formals ++ its_names)) (first + length (its_formals ++ its_locals)) s.statements sub.statements its_loops
-      its_parts = stmts_are its_items (around_body name) s.statements (declaring_all [] (its_formals ++ its_names)) (first + length (its_formals ++ its_locals))
+      -- what stands in the table of types where its annotations are, and where its statements are
+      start_stands : p.types ≡ start.types ++ (own_types sub ++ back)
+      start_stands =
+          types ∙ ap (λ (xs : List TypeRow). standard_types ++ xs) rows_are ∙ sym (append_assoc standard_types front (own_types sub ++ back)) ∙ ap (λ (xs : List TypeRow). xs ++ (own_types sub ++ back)) count
+
+      abbrev its_table : List TypeRow
+      its_table = start.types ++ own_types sub
+
+      within_start : (id : TypeId) (f : TypeForm) → form_in start.types id ≡ Some f → form_at p id ≡ Some f
+      within_start id f is = ap (λ (ts : List TypeRow). form_in ts id) start_stands ∙ front_form start.types (own_types sub ++ back) id f is
+
+      within_body : (id : TypeId) (f : TypeForm) → form_in its_table id ≡ Some f → form_at p id ≡ Some f
+      within_body id f is = ap (λ (ts : List TypeRow). form_in ts id) (start_stands ∙ sym (append_assoc start.types (own_types sub) back)) ∙ front_form its_table back id f is
+
+      its_parts : AreStmts its_table its_items (around_body name) (declaring_all [] (its_formals ++ its_names)) (first + length (its_formals ++ its_locals)) s.statements sub.statements its_loops
+      its_parts = stmts_are its_table its_items (around_body name) s.statements (declaring_all [] (its_formals ++ its_names)) (first + length (its_formals ++ its_locals))
 
       loops_are : Consecutive (IsLoopParameter more) after_locals its_loops
       loops_are =
           subst (λ n. Consecutive (IsLoopParameter more) n its_loops) (let e : first + length (its_formals ++ its_locals) ≡ after_locals = omega (arith, length-append its_formals its_locals) in e)
-          (stmts_consecutive more (around_body name) (around_holds (HasRow more) Any (predefined_have_rows more) name tt) its_items its_parts own_holds)
+          (stmts_consecutive more (around_body name) (around_holds (HasRow more) Any (predefined_have_rows more) name tt) its_table its_items its_parts own_holds)
 
       -- ---- their rows
 
@@ -664,37 +711,37 @@ module _ (p : Program) (more : List TypeRow) (types : p.types ≡ standard_types
       no_inner v h =
           false_from_ne_true (is_inner v sub) (λ l. let kind = formal_kind v h in let other = inner_kind v l in let e : Formal kind.0 ≡ other.0 = cc in subst IsInnerKind (sym e) other.2)
 
-      its_commands : Resolves (HasRow more) Own 0 (commands sub.statements)
-      its_commands = stmts_resolve (HasRow more) Own its_items (around_body name) in_body.1 0 its_parts (omega arith) in_body.0 loops_own
+      its_commands : Resolves its_table (HasRow more) Own 0 (commands sub.statements)
+      its_commands = stmts_resolve its_table (HasRow more) Own its_items (around_body name) in_body.1 0 its_parts (omega arith) in_body.0 loops_own
 
       own_row : (v : VarId) (object : Object) → Own v object → object_declared p v ≡ Some object
       own_row v object own = own.1
 
       counted_over : (v : VarId) → counts v (effect (commands sub.statements)) ≡ true → is_loop_parameter v sub ≡ true
-      counted_over v h = let one = (counted_variable (HasRow more) Own v 0 (commands sub.statements) its_commands h).1 in one.2.2 one.1
+      counted_over v h = let one = (counted_variable its_table (HasRow more) Own v 0 (commands sub.statements) its_commands h).1 in one.2.2 one.1
 
       scoped_sub : Scoped p sub
       scoped_sub = record {
-        targets = λ v h. (set_variable (HasRow more) Own v 0 (commands sub.statements) its_commands h).1.0;
-        read = λ v h. (read_variable (HasRow more) Own v 0 (commands sub.statements) its_commands h).1.0;
-        exported = λ v h. (in_relation (HasRow more) FormalRow annotations in_annotations v (has_export v) (λ item. mentioned_variable (HasRow more) FormalRow annotations in_annotations v (exported_names item.exports)) s.derives (sym (exports_are v sub) ∙ h)).1.0;
-        imported = λ v h. (in_relation (HasRow more) FormalRow annotations in_annotations v (has_import v) (imported_variable (HasRow more) FormalRow annotations in_annotations v) s.derives (sym (imports_are v sub) ∙ h)).1.0;
+        targets = λ v h. (set_variable its_table (HasRow more) Own v 0 (commands sub.statements) its_commands h).1.0;
+        read = λ v h. (read_variable its_table (HasRow more) Own v 0 (commands sub.statements) its_commands h).1.0;
+        exported = λ v h. (in_relation its_table (HasRow more) FormalRow annotations in_annotations v (has_export v) (λ item. mentioned_variable (HasRow more) FormalRow annotations in_annotations v (exported_names item.exports)) s.derives (sym (exports_are v sub) ∙ h)).1.0;
+        imported = λ v h. (in_relation its_table (HasRow more) FormalRow annotations in_annotations v (has_import v) (imported_variable its_table (HasRow more) FormalRow annotations in_annotations v) s.derives (sym (imports_are v sub) ∙ h)).1.0;
         formal_kinds = formal_kind;
         inner_kinds = inner_kind;
         local_types = λ v h. let one = local_as (IsLocal more) (λ object k. k.1) locals_are v h in (one.0, one.1);
         once = positions_differ first ((its_formals ++ its_locals) ++ its_loops);
         apart = no_inner;
-        relation_modes = relation_has_modes p (HasRow more) FormalRow (λ v object h. h.1) annotations in_annotations s.derives;
-        target_modes = targets_have_modes p (HasRow more) Own own_row 0 (commands sub.statements) its_commands;
-        body_names = command_as_declared p (HasRow more) Own own_row 0 (commands sub.statements) its_commands;
+        relation_modes = relation_has_modes p its_table within_body (HasRow more) FormalRow (λ v object h. h.1) annotations in_annotations s.derives;
+        target_modes = targets_have_modes p its_table within_body (HasRow more) Own own_row 0 (commands sub.statements) its_commands;
+        body_names = command_as_declared p its_table within_body (HasRow more) Own own_row 0 (commands sub.statements) its_commands;
         counted = counted_over;
         loop_parameter_kinds = loop_kind;
-        loops_differ = loops_differ (HasRow more) Own 0 (commands sub.statements) its_commands;
-        pre_names = predicate_as_declared p (HasRow more) FormalRow (λ v object h. h.1) annotations in_annotations [] s.pre;
-        post_names = predicate_as_declared p (HasRow more) FormalRow (λ v object h. h.1) annotations in_annotations its_items s.post;
-        body_parts = command_as_formed p (HasRow more) Own own_row 0 (commands sub.statements) its_commands;
-        pre_parts = predicate_as_formed p (HasRow more) FormalRow (λ v object h. h.1) annotations in_annotations [] s.pre;
-        post_parts = predicate_as_formed p (HasRow more) FormalRow (λ v object h. h.1) annotations in_annotations its_items s.post;
+        loops_differ = loops_differ its_table (HasRow more) Own 0 (commands sub.statements) its_commands;
+        pre_names = predicate_as_declared p start.types within_start (HasRow more) FormalRow (λ v object h. h.1) annotations in_annotations (in_code start.types) refl s.pre;
+        post_names = predicate_as_declared p start.types within_start (HasRow more) FormalRow (λ v object h. h.1) annotations in_annotations (in_annotation start.types its_items) refl s.post;
+        body_parts = command_as_formed p its_table within_body (HasRow more) Own own_row 0 (commands sub.statements) its_commands;
+        pre_parts = predicate_as_formed p start.types within_start (HasRow more) FormalRow (λ v object h. h.1) annotations in_annotations (in_code start.types) refl s.pre;
+        post_parts = predicate_as_formed p start.types within_start (HasRow more) FormalRow (λ v object h. h.1) annotations in_annotations (in_annotation start.types its_items) refl s.post;
       }
 
   -- ---- programs
@@ -702,13 +749,13 @@ module _ (p : Program) (more : List TypeRow) (types : p.types ≡ standard_types
   -- it holds of each unit, whose variables and types stand between some rows, with the position of its first type
   abbrev pub OfEach : (ℕ → Sub → Type 0) → Type 0
   OfEach Q =
-      (library : Region) (position : ℕ) (counts : Counts) (s : Subprogram) (before after : List Var) → length before ≡ counts.vars → p.vars ≡ before ++ (own_vars (resolved_sub (unit_name library position s) counts s) ++ after)
-      → (front back : List TypeRow) → length (standard_types ++ front) ≡ counts.types → more ≡ front ++ (own_types (resolved_sub (unit_name library position s) counts s) ++ back)
-      → Q counts.types (resolved_sub (unit_name library position s) counts s)
+      (library : Region) (position : ℕ) (counts : Before) (s : Subprogram) (before after : List Var) → length before ≡ counts.vars → p.vars ≡ before ++ (own_vars (resolved_sub (unit_name library position s) counts s) ++ after)
+      → (front back : List TypeRow) → standard_types ++ front ≡ counts.types → more ≡ front ++ (own_types (resolved_sub (unit_name library position s) counts s) ++ back)
+      → Q (next_type counts) (resolved_sub (unit_name library position s) counts s)
 
-  each_sub : (Q : ℕ → Sub → Type 0) → OfEach Q → (library : Region) (position : ℕ) (counts : Counts) (before : List Var) (front : List TypeRow) (units : List Unit) → length before ≡ counts.vars → length (standard_types ++ front) ≡ counts.types
+  each_sub : (Q : ℕ → Sub → Type 0) → OfEach Q → (library : Region) (position : ℕ) (counts : Before) (before : List Var) (front : List TypeRow) (units : List Unit) → length before ≡ counts.vars → standard_types ++ front ≡ counts.types
       → p.vars ≡ before ++ flat_map own_vars (resolved_subs library position counts units) → more ≡ front ++ flat_map own_types (resolved_subs library position counts units)
-      → AllFrom type_count Q counts.types (resolved_subs library position counts units)
+      → AllFrom type_count Q (next_type counts) (resolved_subs library position counts units)
   each_sub Q of_each library position counts before front [] len count vars rows_are = tt
   each_sub Q of_each library position counts before front (unit.Subprogram s ∷ units) len count vars rows_are =
       let one = resolved_sub (unit_name library position s) counts s in
@@ -717,11 +764,12 @@ module _ (p : Program) (more : List TypeRow) (types : p.types ≡ standard_types
       let after = flat_map own_vars later in
       let back = flat_map own_types later in (
         of_each library position counts s before after len vars front back count rows_are,
-        each_sub Q of_each next (position + 1) (counted_sub counts one) (before ++ own_vars one) (front ++ own_types one) units
+        subst (λ n. AllFrom type_count Q n later) (length-append counts.types (own_types one))
+            (each_sub Q of_each next (position + 1) (counted_sub counts one) (before ++ own_vars one) (front ++ own_types one) units
             (length-append before (own_vars one) ∙ ap (λ n. n + length (own_vars one)) len)
-            (ap length (sym (append_assoc standard_types front (own_types one))) ∙ length-append (standard_types ++ front) (own_types one) ∙ ap (λ n. n + length (own_types one)) count)
+            (sym (append_assoc standard_types front (own_types one)) ∙ ap (λ (xs : List TypeRow). xs ++ own_types one) count)
             (vars ∙ sym (append_assoc before (own_vars one) after))
-            (rows_are ∙ sym (append_assoc front (own_types one) back)),
+            (rows_are ∙ sym (append_assoc front (own_types one) back))),
       )
 
 -- what holds of each unit, and of the position of its types, holds of all subprograms of a program

@@ -46,8 +46,8 @@ assignment_found target value b h =
     let o = target_is target.root.name.place target.root.entity l.whole l.named in
     let same = sym (way_leads target.root.name.place l.whole target.way subtype l.leads) in
     by_part (keeps N10 t.place (is_of subtype.base t.of)) _ b h
-    (λ e. by_test Breaks N10 t.place (is_of subtype.base t.of) b e (λ no. broken.of_another_type target value o.0 l.whole t o.1 o.2 (sound value t has) (subst (λ (s : Subtype). is_of s.base t.of ≡ false) same no))) (λ _ _ e.
-    by_test Breaks N12 t.place (lies_in (Of subtype.base) t.value) b e (λ no. broken.out_of_range target value o.0 l.whole t o.1 o.2 (sound value t has) (subst (λ (s : Subtype). lies_in (Of s.base) t.value ≡ false) same no)))))
+    (λ e. by_test Breaks N10 t.place (is_of subtype.base t.of) b e (λ no. broken.of_another_type target value o.0 l.whole t l.led o.1 o.2 (sound value t has) (subst (λ (s : Subtype). is_of s.base t.of ≡ false) same no))) (λ _ _ e.
+    by_test Breaks N12 t.place (lies_in (Of subtype.base) t.value) b e (λ no. broken.out_of_range target value o.0 l.whole t l.led o.1 o.2 (sound value t has) (subst (λ (s : Subtype). lies_in (Of s.base) t.value ≡ false) same no)))))
 
 -- ---- choices
 
@@ -292,8 +292,8 @@ no_command _ _ _ (broken.value target value rule place h) ok =
     let o = bound (referred_target target) _ tt ok in
     let t = bound (judged value) _ tt o.2 in
     no_expr value rule place h t.0 t.1
-no_command _ _ _ (broken.of_another_type target value e subtype t is its d fails) ok = both_ways _ fails (assigned_passes target value e subtype t is its d ok).0
-no_command _ _ _ (broken.out_of_range target value e subtype t is its d fails) ok = both_ways _ fails (assigned_passes target value e subtype t is its d ok).1
+no_command _ _ _ (broken.of_another_type target value e subtype t led is its d fails) ok = both_ways _ fails (assigned_passes target value e subtype t is its d ok).0
+no_command _ _ _ (broken.out_of_range target value e subtype t led is its d fails) ok = both_ways _ fails (assigned_passes target value e subtype t is its d ok).1
 no_command _ _ _ (broken.first a b rule place h) ok = no_command a rule place h (bound (judged_command a) (λ _. judged_command b) tt ok).1
 no_command _ _ _ (broken.second a b rule place h) ok = no_command b rule place h (bound (judged_command a) (λ _. judged_command b) tt ok).2
 no_command _ _ _ (broken.condition at e a b rule place h) ok = no_condition e rule place h (bound (test e) (λ _. judged_command a >>= λ _. judged_command b) tt ok).1

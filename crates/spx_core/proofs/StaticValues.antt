@@ -3,8 +3,8 @@ use Rattle.std.proofs.Common.{◌≡◌, ◌&&◌, ◌||◌, ℕ, ℤ, Bool, tru
 use Rattle.std.specs.Prelude.{◌⊎◌, codes}
 use Rattle.std.proofs.lemmas.Bool.{and_parts, both_ways}
 use Rattle.spx_text.specs.declared.place.Place.{Place}
-use Rattle.spx_tree.specs.declared.expression.FunctionForm.{FunctionForm}
-use Rattle.spx_tree.specs.declared.expression.FunctionForm.TheVariants as form
+use Rattle.spx_core.specs.declared.function.FunctionForm.{FunctionForm}
+use Rattle.spx_core.specs.declared.function.FunctionForm.TheVariants as form
 use Rattle.spx_tree.specs.declared.expression.InfixOp.{InfixOp}
 use Rattle.spx_tree.specs.declared.expression.InfixOp.TheVariants as op
 use Rattle.spx_tree.specs.declared.expression.PrefixOp.{PrefixOp}
@@ -28,8 +28,8 @@ use Rattle.spx_core.specs.declared.rule.ExprType.{ExprType}
 use Rattle.spx_core.specs.declared.rule.ExprType.TheVariants.{Universal, Of}
 use Rattle.spx_core.specs.declared.rule.RuleName.TheVariants.{N3, N10, N12, N14, N18}
 use Rattle.spx_core.specs.declared.rule.Typing.{Typing}
-use Rattle.spx_core.specs.HasType.{HasType, number, name, entered, attribute_of, applied, parenthesized, converted, signed, operated, in_type, in_range, element_of, selected_of}
-use Rattle.spx_core.specs.Judged.{◌>>=◌, keeps, standing_at, value_at, function_at, attribute_function, applied_form, application, attribute, attribute_of as end_of, has_attribute, indexed, is_attribute, is_word, judged, named_object, named_type, typing}
+use Rattle.spx_core.specs.HasType.{HasType, number, name, entered, attribute_of, applied, parenthesized, converted, signed, operated, in_type, in_range, element_of, selected_of, attribute_of_array}
+use Rattle.spx_core.specs.Judged.{◌>>=◌, keeps, standing_at, value_at, function_at, has_end, attribute_function, applied_form, application, attribute, attribute_of as end_of, has_attribute, indexed, is_attribute, is_word, judged, named_object, named_type, typing}
 use Rattle.spx_core.specs.Types.{both_held, has_literals, has_numbers, has_parts, has_truths, is_boolean, is_held, is_typed_at, lies_in, lies_in_operand, lies_within, member_value, result_of, right_type, signed_result, three_fit, is_number, is_numeric, is_of, is_parted, is_taken, left_type, meet, met, operand_fits, operands_fit, result_type, same_class, shifted_value}
 use Rattle.spx_core.proofs.Judgements.{bound, kept, ok_is}
 use Rattle.spx_core.proofs.TypedLaws.{sound}
@@ -59,6 +59,12 @@ attribute_plain class.Integer a b h = refl
 attribute_plain class.Boolean a b h = refl
 attribute_plain class.Enumeration a b h = refl
 attribute_plain class.Composite a b h = absurd cc
+
+end_class_plain : (c : Class) (b : Bool) → (has_numbers c && b) ≡ true → has_parts c ≡ false
+end_class_plain class.Integer b h = refl
+end_class_plain class.Boolean b h = refl
+end_class_plain class.Enumeration b h = refl
+end_class_plain class.Composite b h = absurd cc
 
 class_plain : (a b : Class) → same_class a b ≡ true → has_parts b ≡ false → has_parts a ≡ false
 class_plain class.Integer b h plain = refl
@@ -237,6 +243,10 @@ static_plain _ _ (element_of a place i x o k t d c h) n is =
 static_plain _ _ (selected_of a field x o t d h) n is =
     let fits = bound (keeps N10 o.place (is_typed_at x.record o.of)) _ t h in
     not_static (Of x.field.base) o.place t (ok_is fits.2) n is
+static_plain _ _ (attribute_of_array a designator x o t d h) n is =
+    let fits = bound (keeps N10 o.place (is_typed_at x.array o.of)) _ t h in
+    let ends = bound (keeps N3 o.place (has_end x.index designator.text)) _ t fits.2 in
+    along (ok_is ends.2) (end_class_plain x.index.base.class (is_attribute designator.text) (kept N3 o.place _ ends.1))
 
 pub static_has_no_parts : (e : CoreExpr) (t : Typing) → judged e ≡ Ok t → (n : ℤ) → t.value ≡ Some n → is_parted t.of ≡ false
 static_has_no_parts e t h = static_plain e t (sound e t h)

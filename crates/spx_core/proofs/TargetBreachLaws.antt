@@ -1,11 +1,12 @@
 -- What is reported of a rule on names or types in a target is broken at that place, and where nothing is reported no rule is broken.
-use Rattle.std.proofs.Common.{◌≡◌, true, List, [], ◌∷◌, Some, Ok, Err, refl, sym, ap, subst, ◌∙◌}
+use Rattle.std.proofs.Common.{◌≡◌, true, List, [], ◌∷◌, Option, Some, None, Ok, Err, refl, sym, ap, subst, ◌∙◌}
 use Rattle.std.proofs.lemmas.Bool.{both_ways}
 use Rattle.spx_text.specs.declared.place.Place.{Place}
 use Rattle.spx_tree.specs.declared.expression.Identifier.{Identifier}
 use Rattle.spx_core.specs.declared.entity.Entity.{Entity}
 use Rattle.spx_core.specs.declared.entity.Subtype.{Subtype}
 use Rattle.spx_core.specs.declared.name.CoreName.{CoreName}
+use Rattle.spx_core.specs.declared.name.FaultyName.{FaultyName}
 use Rattle.spx_core.specs.declared.expression.CoreExpr.{CoreExpr}
 use Rattle.spx_core.specs.declared.part.Indexing.{Indexing}
 use Rattle.spx_core.specs.declared.part.Selection.{Selection}
@@ -14,17 +15,17 @@ use Rattle.spx_core.specs.declared.part.PartStep.TheVariants as part
 use Rattle.spx_core.specs.declared.part.Target.{Target}
 use Rattle.spx_core.specs.declared.rule.Breach.{Breach}
 use Rattle.spx_core.specs.declared.rule.RuleName.{RuleName}
-use Rattle.spx_core.specs.declared.rule.RuleName.TheVariants.{N3, N10, N12}
+use Rattle.spx_core.specs.declared.rule.RuleName.TheVariants.{N10, N12}
 use Rattle.spx_core.specs.declared.rule.ExprType.TheVariants.{Of}
 use Rattle.spx_core.specs.declared.rule.Typing.{Typing}
 use Rattle.spx_core.specs.HasType.{HasType}
-use Rattle.spx_core.specs.Judged.{◌>>=◌, is_whole, judged, judged_way, keeps, named_target, operand_of, part_type, referred_target}
+use Rattle.spx_core.specs.Judged.{◌>>=◌, judged, leads, judged_way, keeps, named_target, operand_of, part_type, referred_target}
 use Rattle.spx_core.specs.NameBreaches as broken
 use Rattle.spx_core.specs.NameBreaches.{BreaksBound, BreaksTarget, BreaksWay, assigned_type}
 use Rattle.spx_core.specs.Types.{is_of, is_type_at, lies_in}
 use Rattle.spx_core.proofs.Judgements.{bound, by_part, by_test, joined, kept, ok_is, some_is}
 use Rattle.spx_core.proofs.TypedLaws.{complete, sound}
-use Rattle.spx_core.proofs.NameBreachLaws.{At, expr_found, no_expr, no_step, no_target_name, some_step, target_found, target_is}
+use Rattle.spx_core.proofs.NameBreachLaws.{At, expr_found, faulty_found, no_expr, no_target_name, target_found, target_is}
 
 -- ---- values of a type: the bounds of a loop, and indexes
 
@@ -88,29 +89,35 @@ way_leads place subtype (part.Field field x ∷ way) last ok = way_leads place x
 
 -- ---- targets
 
+-- a name that denotes nothing
+not_led : (target : Target) (o : Option FaultyName) → target.faulty ≡ o → (b : Breach) → leads o ≡ Err b → At (BreaksTarget target) b
+not_led target None is b h = absurd cc
+not_led target (Some faulty) is b h = broken.leads_nowhere faulty b.rule b.place is (faulty_found faulty b cc)
+
 pub target_breach_found : (target : Target) (b : Breach) → referred_target target ≡ Err b → At (BreaksTarget target) b
 target_breach_found target b h =
     let place = target.root.name.place in
     by_part (named_target target.root) _ b h (λ e. broken.root b.rule b.place (target_found target.root _ b refl e)) (λ whole is h.
     let o = target_is place target.root.entity whole is in
-    by_part (judged_way place whole target.way) _ b h (λ e. broken.way o.0 whole b.rule b.place o.1 o.2 (way_found place whole target.way b e)) (λ _ _ h.
-    by_part (keeps N3 place (is_whole target.rest)) _ b h
-    (λ e. by_test (BreaksTarget target) N3 place (is_whole target.rest) b e (λ no. let step = some_step target.rest no in broken.not_whole step.0 step.1)) (λ _ _ h. absurd cc)))
+    by_part (leads target.faulty) _ b h (λ e. not_led target target.faulty refl b e) (λ _ _ e. broken.way o.0 whole b.rule b.place o.1 o.2 (way_found place whole target.way b e)))
+
+is_led : (o : Option FaultyName) → leads o ≡ Ok tt → o ≡ None
+is_led None h = refl
+is_led (Some faulty) h = absurd cc
 
 -- what a target passes that breaks no rule
 pub record Leads (target : Target) (subtype : Subtype) : Type 0 where
   pub whole : Subtype
   pub named : named_target target.root ≡ Ok whole
   pub leads : judged_way target.root.name.place whole target.way ≡ Ok subtype
-  pub ends : is_whole target.rest ≡ true
+  pub led : target.faulty ≡ None
 
 pub target_leads : (target : Target) (subtype : Subtype) → referred_target target ≡ Ok subtype → Leads target subtype
 target_leads target subtype ok =
     let place = target.root.name.place in
     let n = bound (named_target target.root) _ subtype ok in
-    let w = bound (judged_way place n.0 target.way) _ subtype n.2 in
-    let k = bound (keeps N3 place (is_whole target.rest)) _ subtype w.2 in
-    record { whole = n.0; named = n.1; leads = w.1 ∙ k.2; ends = kept N3 place _ k.1 }
+    let w = bound (leads target.faulty) _ subtype n.2 in
+    record { whole = n.0; named = n.1; leads = w.2; led = is_led target.faulty w.1 }
 
 -- a name denotes one thing that may be assigned
 pub one_target : (name : CoreName) (whole : Subtype) (e : Entity) (subtype : Subtype) → named_target name ≡ Ok whole → name.entity ≡ Some e → assigned_type e ≡ Some subtype → whole ≡ subtype
@@ -125,4 +132,4 @@ no_target target subtype ok _ _ (broken.way e whole rule place is its h) =
     let at = target.root.name.place in
     let l = target_leads target subtype ok in
     no_way at whole target.way rule place h subtype (subst (λ s. judged_way at s target.way ≡ Ok subtype) (one_target target.root l.whole e whole l.named is its) l.leads)
-no_target target subtype ok _ _ (broken.not_whole step is) = no_step target.rest step (target_leads target subtype ok).ends is
+no_target target subtype ok _ _ (broken.leads_nowhere faulty rule place is h) = let none : None ≡ Some faulty = sym (target_leads target subtype ok).led ∙ is in absurd cc

@@ -1,10 +1,10 @@
 -- The type that a universal expression takes from its context (Ada 95 RM 3.4.1, 4.6, 8.6). A power of a universal number by an exponent that is not static is
 -- universal and not static, and so is what operators make of it. It takes the type that it meets: each of its largest static parts is converted to that type.
-use Rattle.std.specs.Prelude.{◌≡◌, refl, ℤ, Bool, true, false, not, ◌&&◌, is_some, Option, Some, None, if◌then◌else◌, Ok, Err}
+use Rattle.std.specs.Prelude.{◌≡◌, refl, ℤ, Bool, true, false, not, ◌&&◌, is_some, List, Option, Some, None, if◌then◌else◌, Ok, Err}
 use denote.Hole.Carrier.{hidden}
 use Rattle.spx_text.specs.declared.place.Place.{Place}
-use Rattle.spx_tree.specs.declared.expression.FunctionForm.{FunctionForm}
-use Rattle.spx_tree.specs.declared.expression.FunctionForm.TheVariants as form
+use Rattle.spx_core.specs.declared.function.FunctionForm.{FunctionForm}
+use Rattle.spx_core.specs.declared.function.FunctionForm.TheVariants as form
 use Rattle.spx_tree.specs.declared.expression.Identifier.{Identifier}
 use Rattle.spx_tree.specs.declared.expression.InfixOp.{InfixOp}
 use Rattle.spx_tree.specs.declared.expression.InfixOp.TheVariants as op
@@ -16,18 +16,21 @@ use Rattle.spx_core.specs.declared.entity.Entity.{Entity}
 use Rattle.spx_core.specs.declared.entity.Entity.TheVariants as entity
 use Rattle.spx_core.specs.declared.expression.CoreExpr.{CoreExpr}
 use Rattle.spx_core.specs.declared.expression.CoreExpr.TheBlock.{hidden-the_row-CoreExpr-0}
-use Rattle.spx_core.specs.declared.expression.CoreExpr.TheVariants.{Number, Name, Entry, Attribute, Applied, Parenthesized, Implicit, Prefix, Infix, InType, InRange, Element, Selected}
+use Rattle.spx_core.specs.declared.expression.CoreExpr.TheVariants.{Number, Name, Entry, Attribute, Applied, Parenthesized, Implicit, Prefix, Infix, InType, InRange, Element, Selected, ArrayAttribute, Faulty}
 use Rattle.spx_core.specs.declared.function.CoreFunction.{CoreFunction}
 use Rattle.spx_core.specs.declared.name.CoreName.{CoreName}
 use Rattle.spx_core.specs.declared.name.Reference.{Reference}
 use Rattle.spx_core.specs.declared.part.Indexing.{Indexing}
 use Rattle.spx_core.specs.declared.part.Selection.{Selection}
+use Rattle.spx_core.specs.declared.name.FaultyName.{FaultyName}
+use Rattle.spx_core.specs.declared.part.ArrayEnds.{ArrayEnds}
+use Rattle.spx_core.specs.declared.part.PartStep.{PartStep}
 use Rattle.spx_core.specs.declared.rule.ExprType.{ExprType}
 use Rattle.spx_core.specs.declared.rule.ExprType.TheVariants.{Universal, Of}
 use Rattle.spx_core.specs.declared.rule.Typing.{Typing}
-use Rattle.spx_core.specs.Judged.{Judged, judged}
+use Rattle.spx_core.specs.Judged.{Judged, judged, part_type}
 use Rattle.spx_core.specs.Places.{place_of}
-use Rattle.spx_core.specs.Shapes.{applied_of, element_of, implicit_of, in_range_of, in_type_of, infix_of, parenthesized_of, prefix_of, selected_of}
+use Rattle.spx_core.specs.Shapes.{applied_of, element_of, implicit_of, in_range_of, in_type_of, infix_of, parenthesized_of, prefix_of, selected_of, array_attribute_of}
 use Rattle.spx_core.specs.Types.{is_numeric, met, operands_fit, right_type, three_fit}
 
 -- ---- which expressions take a type
@@ -90,6 +93,11 @@ type_given (Some (entity.Variable v object)) = Of object.subtype.base
 type_given (Some (entity.Constant subtype value)) = Of subtype.base
 type_given _ = Universal
 
+-- the type of a part of an object of this type
+abbrev pub type_along : Option Entity → List PartStep → ExprType
+type_along (Some (entity.Variable v object)) way = Of (part_type object.subtype way).base
+type_along other way = type_given other
+
 -- the type that the operand of a function meets: that of a conversion or a qualification; an attribute takes numbers of any type
 abbrev pub met_by_operand : FunctionForm → Option Entity → ExprType
 met_by_operand (form.Attribute designator) denoted = Of INTEGER.base
@@ -136,6 +144,8 @@ taking given (in_range_of op place a low high) =
     (taking (taken (met_in_range (judged a) (judged low) (judged high)) (judged high)) high))
 taking given (element_of a place i x) = converted given (Element a place i x) (Element (taking None a) place (taking (taken (Of x.index.base) (judged i)) i) x)
 taking given (selected_of a field x) = converted given (Selected a field x) (Selected (taking None a) field x)
+taking given (array_attribute_of a designator x) = converted given (ArrayAttribute a designator x) (ArrayAttribute (taking None a) designator x)
+taking given (Faulty faulty) = converted given (Faulty faulty) (Faulty faulty)
 
 -- an expression where it meets this type
 abbrev pub in_context : ExprType → CoreExpr → CoreExpr
@@ -208,5 +218,13 @@ module _ (given : Option BaseType) where
   unfolding taking hidden-the_row-CoreExpr-0 hidden
   taking-Selected a field x = refl
 
+  pub taking-ArrayAttribute : (a : CoreExpr) (designator : Identifier) (x : ArrayEnds) → taking given (ArrayAttribute a designator x) ≡ converted given (ArrayAttribute a designator x) (ArrayAttribute (taking None a) designator x)
+  unfolding taking hidden-the_row-CoreExpr-0 hidden
+  taking-ArrayAttribute a designator x = refl
+
+  pub taking-Faulty : (faulty : FaultyName) → taking given (Faulty faulty) ≡ converted given (Faulty faulty) (Faulty faulty)
+  unfolding taking
+  taking-Faulty faulty = refl
+
 -- all of these laws
-pub ruleset taking_forms = (taking-Number, taking-Name, taking-Entry, taking-Attribute, taking-Applied, taking-Parenthesized, taking-Implicit, taking-Prefix, taking-Infix, taking-InType, taking-InRange, taking-Element, taking-Selected)
+pub ruleset taking_forms = (taking-ArrayAttribute, taking-Faulty, taking-Number, taking-Name, taking-Entry, taking-Attribute, taking-Applied, taking-Parenthesized, taking-Implicit, taking-Prefix, taking-Infix, taking-InType, taking-InRange, taking-Element, taking-Selected)

@@ -12,7 +12,6 @@ use Rattle.spx_core.specs.declared.subprogram.Sub.{Sub}
 use Rattle.spx_core.specs.Commands.{Assertion, Skip, Then, commands}
 use Rattle.spx_core.proofs.Callers.Expressions.{fold-Entry, fold-Name, fold-Number, fold-Infix}
 use Rattle.spx_core.proofs.Callers.CommandForms.{command-Assertion, command-Assignment}
-use Rattle.spx_core.specs.Resolved.{target_at}
 use Rattle.spx_term.specs.declared.value.Value.{Value}
 use Rattle.spx_term.specs.declared.value.Value.TheVariants as value
 use Rattle.spx_term.specs.Meaning.{as_truth, value_of_op}
@@ -23,7 +22,8 @@ use Rattle.spx_meaning.specs.Annotations.{meant, meant_step}
 use Rattle.spx_meaning.specs.Evaluation.{applied, read}
 use Rattle.spx_meaning.specs.Runs.{Outcome, Ended, Bad, then_do, demand, demand_post, exports_set, run, call, untrue}
 use Rattle.spx_examples.specs.Assertions.{entry_at, after_entry, is_kept, is_next, is_positive, promising, program_of, checking, noting, step_and, step_and_assert, step_and_check, check_and_step, only_checking, unset_and_promising, checking_unset}
-use Rattle.spx_examples.specs.Increment.{place, x, x_at, x_named, successor, step}
+use Rattle.spx_examples.specs.Increment.{place, x, x_at, successor, step}
+use Rattle.spx_examples.specs.Names.{target_to}
 use Rattle.spx_examples.specs.Variants.{local_program, local_sub, local_y_at, out_program, only_null}
 use Rattle.spx_examples.proofs.IncrementRuns.{body_runs}
 use Rattle.spx_examples.proofs.Statements.{assertion_is, null_is}
@@ -95,10 +95,10 @@ abbrev looking_at : AssertionKind → ℕ → Value → Store → Outcome
 looking_at kind line v s = demand (as_truth v) (untrue kind) (place line 8) s
 
 after_step : (kind : AssertionKind) (condition : CoreExpr) → commands (step ∷ noting kind 7 condition ∷ []) ≡ Then (step_command 6 4 9) (Then (Assertion kind (place 7 8) condition) Skip)
-after_step kind condition = ap₂ (λ a b. Then a (Then b Skip)) (command-Assignment (target_at (x_named 6 4)) (successor 6 9)) (command-Assertion kind (place 7 8) condition)
+after_step kind condition = ap₂ (λ a b. Then a (Then b Skip)) (command-Assignment (target_to (x_at 6 4)) (successor 6 9)) (command-Assertion kind (place 7 8) condition)
 
 before_step : (condition : CoreExpr) → commands (checking 5 condition ∷ step ∷ []) ≡ Then (Assertion assertion.Check (place 5 8) condition) (Then (step_command 6 4 9) Skip)
-before_step condition = ap₂ (λ a b. Then a (Then b Skip)) (command-Assertion assertion.Check (place 5 8) condition) (command-Assignment (target_at (x_named 6 4)) (successor 6 9))
+before_step condition = ap₂ (λ a b. Then a (Then b Skip)) (command-Assertion assertion.Check (place 5 8) condition) (command-Assignment (target_to (x_at 6 4)) (successor 6 9))
 
 -- the body, where the assignment has this outcome
 abbrev then_looking : AssertionKind → Frame → CoreExpr → Outcome → Outcome

@@ -34,7 +34,7 @@ use Rattle.spx_meaning.specs.Runs.{Outcome, Bad, Ended, Later, after_turn, call,
 use Rattle.spx_meaning.specs.Stores.{Store, is_in, look, reading, type_of, types_of}
 use Rattle.spx_examples.specs.Assertions.{is_positive, program_of}
 use Rattle.spx_examples.specs.BadPrograms.{assert_positive, asserting_in_turns, asserting_loop, bad_first, bad_last, checking_natural, demanding, demanding_program, dividing, is_natural, promising_too_much, quotient}
-use Rattle.spx_examples.specs.Increment.{place, x, x_at, x_named, inc, increment}
+use Rattle.spx_examples.specs.Increment.{place, x, x_at, inc, increment}
 use Rattle.spx_examples.specs.Refused.{inc_without_pre, increment_without_pre, x_is_last}
 use Rattle.spx_examples.specs.NameRules.{breach}
 use Rattle.spx_examples.specs.VariableRules.{pre_on}
@@ -94,7 +94,7 @@ pub divides : (n : ℕ) → call (program_of dividing) n dividing (number (pos 0
 unfolding value_of_op
 divides n =
     let f : Frame = around (program_of dividing) dividing (x_is (pos 0)) in
-    ap (to_end dividing) (assigns f n (x_is (pos 0)) (x_named 6 4) quotient (quotient_of (Gives (value.Number (pos 0)))) (eval_quotient f n (x_is (pos 0))))
+    ap (to_end dividing) (assigns f n (x_is (pos 0)) (x_at 6 4) quotient (quotient_of (Gives (value.Number (pos 0)))) (eval_quotient f n (x_is (pos 0))))
 
 pub division_starts : Start (program_of dividing) dividing (number (pos 0) ∷ [])
 division_starts = x_starts (dividing ∷ []) dividing (pos 0) refl only_import refl

@@ -1,6 +1,6 @@
 -- Folds over expressions and terms, as recursions that compute where their arguments do: what expressions are judged to be, the terms and checks of names,
 -- numbers, conversions that are not written and operations, and the conditions of trees.
-use Rattle.std.proofs.Common.{◌≡◌, Bool, if◌then◌else◌, List, [], ◌∷◌, ◌++◌, map, refl, ap, ap₂, ◌∙◌}
+use Rattle.std.proofs.Common.{◌≡◌, pos, Bool, if◌then◌else◌, List, [], ◌∷◌, ◌++◌, map, refl, ap, ap₂, ◌∙◌}
 use Rattle.std.proofs.Math.Path.{fun_ext}
 use Rattle.std.specs.List.{filter_map, list_all}
 use denote.Hole.Carrier.{hidden}
@@ -19,7 +19,7 @@ use Rattle.spx_core.specs.Places.{place_in, place_of}
 use Rattle.spx_core.specs.Reads.{names_read, names_step}
 use Rattle.spx_core.specs.Shapes as shape
 use Rattle.spx_core.specs.Uses.{variable_of}
-use Rattle.spx_core.proofs.Callers.Expressions.{fold-Applied, fold-Attribute, fold-Element, fold-Entry, fold-Implicit, fold-InRange, fold-InType, fold-Infix, fold-Name, fold-Number, fold-Parenthesized, fold-Prefix, fold-Selected}
+use Rattle.spx_core.proofs.Callers.Expressions.{fold-Applied, fold-ArrayAttribute, fold-Attribute, fold-Element, fold-Entry, fold-Faulty, fold-Implicit, fold-InRange, fold-InType, fold-Infix, fold-Name, fold-Number, fold-Parenthesized, fold-Prefix, fold-Selected}
 use Rattle.spx_term.specs.declared.term.Name.{Name}
 use Rattle.spx_term.specs.declared.term.Term.{Term}
 use Rattle.spx_term.specs.declared.term.Term.TheBlock.{hidden-the_row-Term-0}
@@ -30,8 +30,8 @@ use Rattle.spx_term.specs.Equality.{same_name}
 use Rattle.spx_term.proofs.Terms as terms
 use Rattle.spx_meaning.specs.Evaluation.{term_op}
 use Rattle.spx_meaning.specs.Literals.{base_judged, literal_in}
-use Rattle.spx_paths.specs.Checks.{checks, checks-Element, checks-Implicit, checks-Infix, checks-Name, checks-Number, checks-Selected, index_check, operation_check, right_lefts, unless_static}
-use Rattle.spx_formula.specs.Terms.{element_term, field_term, literal_or, named, now_term, term_of, term_with, term_with-Element, term_with-Implicit, term_with-Infix, term_with-Name, term_with-Number, term_with-Selected}
+use Rattle.spx_paths.specs.Checks.{checks, checks-ArrayAttribute, checks-Element, checks-Faulty, checks-Implicit, checks-Infix, checks-Name, checks-Number, checks-Selected, index_check, operation_check, right_lefts, unless_static}
+use Rattle.spx_formula.specs.Terms.{element_term, end_term, field_term, literal_or, named, now_term, term_of, term_with, term_with-ArrayAttribute, term_with-Element, term_with-Faulty, term_with-Implicit, term_with-Infix, term_with-Name, term_with-Number, term_with-Selected}
 use Rattle.spx_paths.specs.Walks.{is_fixed, keeps_value}
 
 -- ---- expressions
@@ -50,6 +50,8 @@ judged_now (shape.in_type_of op place a name) = expr_step (CoreExpr-F.InType op 
 judged_now (shape.in_range_of op place a low high) = expr_step (CoreExpr-F.InRange op place (judged_now a) (judged_now low) (judged_now high))
 judged_now (shape.element_of a place i x) = expr_step (CoreExpr-F.Element (judged_now a) place (judged_now i) x)
 judged_now (shape.selected_of a field x) = expr_step (CoreExpr-F.Selected (judged_now a) field x)
+judged_now (shape.array_attribute_of a designator x) = expr_step (CoreExpr-F.ArrayAttribute (judged_now a) designator x)
+judged_now (expr.Faulty faulty) = expr_step (CoreExpr-F.Faulty faulty)
 
 pub judged_is : (e : CoreExpr) → judged e ≡ judged_now e
 unfolding hidden-the_row-CoreExpr-0 hidden
@@ -69,6 +71,8 @@ judged_is (shape.in_range_of op place a low high) =
     ∙ ap (λ l. expr_step (CoreExpr-F.InRange op place (judged_now a) (judged_now low) l)) (judged_is high)
 judged_is (shape.element_of a place i x) = fold-Element expr_step a place i x ∙ ap₂ (λ j k. expr_step (CoreExpr-F.Element j place k x)) (judged_is a) (judged_is i)
 judged_is (shape.selected_of a field x) = fold-Selected expr_step a field x ∙ ap (λ j. expr_step (CoreExpr-F.Selected j field x)) (judged_is a)
+judged_is (shape.array_attribute_of a designator x) = fold-ArrayAttribute expr_step a designator x ∙ ap (λ j. expr_step (CoreExpr-F.ArrayAttribute j designator x)) (judged_is a)
+judged_is (expr.Faulty faulty) = fold-Faulty expr_step faulty
 
 -- where an expression stands
 abbrev pub place_now : CoreExpr → Place
@@ -85,6 +89,8 @@ place_now (shape.in_type_of op place a name) = place
 place_now (shape.in_range_of op place a low high) = place
 place_now (shape.element_of a place i x) = place_now a
 place_now (shape.selected_of a field x) = place_now a
+place_now (shape.array_attribute_of a designator x) = place_now a
+place_now (expr.Faulty faulty) = faulty.name.path.root.place
 
 pub place_is : (e : CoreExpr) → place_of e ≡ place_now e
 unfolding hidden-the_row-CoreExpr-0 hidden
@@ -101,6 +107,8 @@ place_is (shape.in_type_of op place a name) = fold-InType place_in op place a na
 place_is (shape.in_range_of op place a low high) = fold-InRange place_in op place a low high
 place_is (shape.element_of a place i x) = fold-Element place_in a place i x ∙ place_is a
 place_is (shape.selected_of a field x) = fold-Selected place_in a field x ∙ place_is a
+place_is (shape.array_attribute_of a designator x) = fold-ArrayAttribute place_in a designator x ∙ place_is a
+place_is (expr.Faulty faulty) = fold-Faulty place_in faulty
 
 -- the names that it reads
 abbrev pub names_now : CoreExpr → List CoreName
@@ -109,6 +117,8 @@ names_now (expr.Name name) = name ∷ []
 names_now (shape.infix_of op place a b) = names_now a ++ names_now b
 names_now (shape.element_of a place i x) = names_now a ++ names_now i
 names_now (shape.selected_of a field x) = names_now a
+names_now (shape.array_attribute_of a designator x) = []
+names_now (expr.Faulty faulty) = []
 names_now e = names_read e
 
 pub names_are : (e : CoreExpr) → names_read e ≡ names_now e
@@ -126,6 +136,8 @@ names_are (shape.in_type_of op place a name) = refl
 names_are (shape.in_range_of op place a low high) = refl
 names_are (shape.element_of a place i x) = fold-Element names_step a place i x ∙ ap₂ (λ (x y : List CoreName). x ++ y) (names_are a) (names_are i)
 names_are (shape.selected_of a field x) = fold-Selected names_step a field x ∙ names_are a
+names_are (shape.array_attribute_of a designator x) = fold-ArrayAttribute names_step a designator x
+names_are (expr.Faulty faulty) = fold-Faulty names_step faulty
 
 abbrev pub fixed_now : Sub → CoreExpr → Bool
 fixed_now sub e = list_all (λ r. keeps_value sub r.1) (filter_map read_of (names_now e))
@@ -143,6 +155,8 @@ module _ (present entered : VarId → Term) where
   term_now (shape.implicit_of base place a) = term_now a
   term_now (shape.element_of a place i x) = element_term x (term_now a) (term_now i)
   term_now (shape.selected_of a field x) = field_term x (term_now a)
+  term_now (shape.array_attribute_of a designator x) = end_term x designator
+  term_now (expr.Faulty faulty) = term.Number (pos 0)
   term_now e = term_with present entered e
 
   pub term_is : (e : CoreExpr) → term_with present entered e ≡ term_now e
@@ -162,6 +176,8 @@ module _ (present entered : VarId → Term) where
   term_is (shape.in_range_of op place a low high) = refl
   term_is (shape.element_of a place i x) = term_with-Element present entered a place i x ∙ ap₂ (element_term x) (term_is a) (term_is i)
   term_is (shape.selected_of a field x) = term_with-Selected present entered a field x ∙ ap (field_term x) (term_is a)
+  term_is (shape.array_attribute_of a designator x) = term_with-ArrayAttribute present entered a designator x
+  term_is (expr.Faulty faulty) = term_with-Faulty present entered faulty
 
 -- ---- their checks
 
@@ -179,6 +195,8 @@ module _ (p : Program) (entered : VarId → Term) where
   checks_now lefts (shape.implicit_of base place a) rest = checks_now lefts a rest
   checks_now lefts (shape.element_of a place i x) rest = checks_now lefts a (checks_now lefts i (index_check lefts x (place_now i) (now i) rest))
   checks_now lefts (shape.selected_of a field x) rest = checks_now lefts a rest
+  checks_now lefts (shape.array_attribute_of a designator x) rest = rest
+  checks_now lefts (expr.Faulty faulty) rest = rest
   checks_now lefts e rest = checks p entered lefts e rest
 
   pub checks_are : (lefts : List Term) (e : CoreExpr) (rest : Tree) → checks p entered lefts e rest ≡ checks_now lefts e rest
@@ -211,6 +229,8 @@ module _ (p : Program) (entered : VarId → Term) where
       ∙ checks_are lefts a _
       ∙ ap (checks_now lefts a) (checks_are lefts i _)
   checks_are lefts (shape.selected_of a field x) rest = checks-Selected p entered lefts a field x rest ∙ checks_are lefts a rest
+  checks_are lefts (shape.array_attribute_of a designator x) rest = checks-ArrayAttribute p entered lefts a designator x rest
+  checks_are lefts (expr.Faulty faulty) rest = checks-Faulty p entered lefts faulty rest
 
 -- ---- the conditions of trees
 

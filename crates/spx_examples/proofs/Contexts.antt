@@ -1,12 +1,11 @@
 -- What written expressions are resolved to, and what becomes of expressions that meet a type, as recursions that compute where their arguments do.
-use Rattle.std.proofs.Common.{◌≡◌, false, if◌then◌else◌, List, Option, Some, None, refl, ap, ap₂, ◌∙◌}
+use Rattle.std.proofs.Common.{◌≡◌, false, if◌then◌else◌, List, [], ◌∷◌, map, Option, Some, None, refl, ap, ap₂, ◌∙◌}
 use denote.Hole.Carrier.{roll, hidden}
 use Rattle.spx_text.specs.declared.place.Place.{Place}
-use Rattle.spx_tree.specs.declared.expression.Expr.{Expr, Expr-F, roll-Expr, map-Expr, fold-roll-Expr}
-use Rattle.spx_tree.specs.declared.expression.Expr.TheBlock.{hidden-the_row-Expr-0}
+use Rattle.spx_tree.specs.declared.expression.Expr.{Expr, Expr-F, Row_of-Expr, end_of-Expr, more_of-Expr, items-the_row-Expr, items_shown-the_row-Expr-0, out-Expr, roll-Expr, map-Expr, fold-roll-Expr, fold_out-Expr}
+use Rattle.spx_tree.specs.declared.expression.Expr.TheBlock.{hidden-the_row-Expr-0, hidden-the_row-Expr-1}
 use Rattle.spx_tree.specs.declared.expression.Expr.TheVariants as written_expr
-use Rattle.spx_tree.specs.Written.{applied, parenthesized, signed, operation, in_type, in_range}
-use Rattle.spx_core.specs.declared.dependency.CoreDerivesItem.{CoreDerivesItem}
+use Rattle.spx_tree.specs.declared.expression.Expr.TheVariants.{Name', InType', outs-Name'}
 use Rattle.spx_core.specs.declared.entity.BaseType.{BaseType}
 use Rattle.spx_core.specs.declared.expression.CoreExpr.{CoreExpr}
 use Rattle.spx_core.specs.declared.expression.CoreExpr.TheBlock.{hidden-the_row-CoreExpr-0}
@@ -14,45 +13,62 @@ use Rattle.spx_core.specs.declared.expression.CoreExpr.TheVariants as expr
 use Rattle.spx_core.specs.declared.rule.ExprType.{ExprType}
 use Rattle.spx_core.specs.declared.rule.ExprType.TheVariants.{Of}
 use Rattle.spx_core.specs.declared.rule.Typing.{Typing}
-use Rattle.spx_core.specs.Contexts.{converted, in_context, is_open, is_static, left_takes, met_by_operand, met_in_range, right_takes, taken, taking, taking-Number, taking-Name, taking-Entry, taking-Attribute, taking-Applied, taking-Parenthesized, taking-Implicit, taking-Prefix, taking-Infix, taking-InType, taking-InRange, taking-Element, taking-Selected, type_given}
+use Rattle.spx_core.specs.Contexts.{converted, in_context, is_open, is_static, left_takes, met_by_operand, met_in_range, right_takes, taken, taking, taking-Number, taking-Name, taking-Entry, taking-Attribute, taking-Applied, taking-Parenthesized, taking-Implicit, taking-Prefix, taking-Infix, taking-InType, taking-InRange, taking-Element, taking-Selected, taking-ArrayAttribute, taking-Faulty, type_given}
 use Rattle.spx_core.specs.Judged.{Judged, judged}
 use Rattle.spx_core.specs.Regions.{Regions}
-use Rattle.spx_core.specs.Resolved.{entry_of, expr_step, resolved_function, resolved_in, resolved_name, resolved_reference, resolved_value}
-use Rattle.spx_core.specs.Shapes.{applied_of, element_of, implicit_of, in_range_of, in_type_of, infix_of, parenthesized_of, prefix_of, selected_of}
+use Rattle.spx_core.specs.Resolved.{Scene, expr_step, resolved_in, resolved_value}
+use Rattle.spx_core.specs.Shapes.{applied_of, array_attribute_of, element_of, implicit_of, in_range_of, in_type_of, infix_of, parenthesized_of, prefix_of, selected_of}
 use Rattle.spx_context.proofs.Unchanged.{takes_none}
+use Rattle.spx_examples.specs.Names.{parenthesized, signed, operation, in_range}
 use Rattle.spx_examples.proofs.Computing.{judged_is, judged_now, place_is, place_now}
 
 -- ---- what is resolved
 
-module _ (items : List CoreDerivesItem) (around : Regions) where
-  abbrev pub resolved_now : Expr → CoreExpr
-  resolved_now (written_expr.Number n place) = expr.Number n place
-  resolved_now (written_expr.Name name) = resolved_value around name
-  resolved_now (written_expr.Entry name) = entry_of items (resolved_name around name)
-  resolved_now (applied function place a) = applied_of (resolved_function around function) place (resolved_now a)
-  resolved_now (parenthesized place a) = parenthesized_of place (resolved_now a)
-  resolved_now (signed op place a) = prefix_of op place (resolved_now a)
-  resolved_now (operation op place a b) = infix_of op place (resolved_now a) (resolved_now b)
-  resolved_now (in_type op place a name) = in_type_of op place (resolved_now a) (resolved_reference around name)
-  resolved_now (in_range op place a low high) = in_range_of op place (resolved_now a) (resolved_now low) (resolved_now high)
+module _ (scene : Scene) (around : Regions) where
+  -- a membership test in a type stays as it is
+  abbrev mutual
+    pub resolved_now : Expr → CoreExpr
+    resolved_now (written_expr.Number n place) = expr.Number n place
+    resolved_now (Name' path shape parts) = resolved_value scene around path (parts_now parts)
+    resolved_now (parenthesized place a) = parenthesized_of place (resolved_now a)
+    resolved_now (signed op place a) = prefix_of op place (resolved_now a)
+    resolved_now (operation op place a b) = infix_of op place (resolved_now a) (resolved_now b)
+    resolved_now (InType' op place one tested path shape parts) = resolved_in scene around (InType' op place one tested path shape parts)
+    resolved_now (in_range op place a low high) = in_range_of op place (resolved_now a) (resolved_now low) (resolved_now high)
 
-  at_layer : (y : Expr-F Expr) → resolved_in items around (roll-Expr y) ≡ expr_step items around (map-Expr Expr CoreExpr (resolved_in items around) y)
-  at_layer y = fold-roll-Expr CoreExpr (expr_step items around) y
+    -- the expressions of a name
+    parts_now : {n : _} → Row_of-Expr n → List CoreExpr
+    parts_now end_of-Expr = []
+    parts_now (more_of-Expr e parts) = resolved_now e ∷ parts_now parts
 
-  resolution_is : (e : Expr) → resolved_in items around e ≡ resolved_now e
-  unfolding roll-Expr roll hidden-the_row-Expr-0 hidden-the_row-CoreExpr-0 hidden
-  resolution_is (written_expr.Number n place) = at_layer (Expr-F.Number n place)
-  resolution_is (written_expr.Name name) = at_layer (Expr-F.Name name)
-  resolution_is (written_expr.Entry name) = at_layer (Expr-F.Entry name)
-  resolution_is (applied function place a) = at_layer (Expr-F.Applied function place a) ∙ ap (applied_of (resolved_function around function) place) (resolution_is a)
-  resolution_is (parenthesized place a) = at_layer (Expr-F.Parenthesized place a) ∙ ap (parenthesized_of place) (resolution_is a)
-  resolution_is (signed op place a) = at_layer (Expr-F.Prefix op place a) ∙ ap (prefix_of op place) (resolution_is a)
-  resolution_is (operation op place a b) = at_layer (Expr-F.Infix op place a b) ∙ ap₂ (infix_of op place) (resolution_is a) (resolution_is b)
-  resolution_is (in_type op place a name) = at_layer (Expr-F.InType op place a name) ∙ ap (λ x. in_type_of op place x (resolved_reference around name)) (resolution_is a)
-  resolution_is (in_range op place a low high) =
-      at_layer (Expr-F.InRange op place a low high)
-      ∙ ap₂ (λ x y. in_range_of op place x y (resolved_in items around high)) (resolution_is a) (resolution_is low)
-      ∙ ap (in_range_of op place (resolved_now a) (resolved_now low)) (resolution_is high)
+  at_layer : (y : Expr-F Expr) → resolved_in scene around (roll-Expr y) ≡ expr_step scene around (map-Expr Expr CoreExpr (resolved_in scene around) y)
+  at_layer y = fold-roll-Expr CoreExpr (expr_step scene around) y
+
+  -- one whose last level is known
+  at_level : (e : Expr) → resolved_in scene around e ≡ expr_step scene around (map-Expr Expr CoreExpr (resolved_in scene around) (out-Expr e))
+  at_level e = fold_out-Expr CoreExpr (expr_step scene around) e
+
+  pub resolved_at : (e : Expr) (y : Expr-F Expr) → out-Expr e ≡ y → resolved_in scene around e ≡ expr_step scene around (map-Expr Expr CoreExpr (resolved_in scene around) y)
+  resolved_at e y is = at_level e ∙ ap (λ z. expr_step scene around (map-Expr Expr CoreExpr (resolved_in scene around) z)) is
+
+  mutual
+    unfolding roll-Expr roll hidden-the_row-Expr-0 hidden-the_row-Expr-1 hidden-the_row-CoreExpr-0 hidden
+
+    pub resolution_is : (e : Expr) → resolved_in scene around e ≡ resolved_now e
+    resolution_is (written_expr.Number n place) = at_layer (Expr-F.Number n place)
+    resolution_is (Name' path shape parts) = resolved_at (Name' path shape parts) _ (outs-Name' path shape parts) ∙ ap (resolved_value scene around path) (ap (map (resolved_in scene around)) (items_shown-the_row-Expr-0 shape parts) ∙ parts_are _ parts)
+    resolution_is (parenthesized place a) = at_layer (Expr-F.Parenthesized place a) ∙ ap (parenthesized_of place) (resolution_is a)
+    resolution_is (signed op place a) = at_layer (Expr-F.Prefix op place a) ∙ ap (prefix_of op place) (resolution_is a)
+    resolution_is (operation op place a b) = at_layer (Expr-F.Infix op place a b) ∙ ap₂ (infix_of op place) (resolution_is a) (resolution_is b)
+    resolution_is (InType' op place one tested path shape parts) = refl
+    resolution_is (in_range op place a low high) =
+        at_layer (Expr-F.InRange op place a low high)
+        ∙ ap₂ (λ x y. in_range_of op place x y (resolved_in scene around high)) (resolution_is a) (resolution_is low)
+        ∙ ap (in_range_of op place (resolved_now a) (resolved_now low)) (resolution_is high)
+
+    parts_are : (n : _) (parts : Row_of-Expr n) → map (resolved_in scene around) (items-the_row-Expr n parts) ≡ parts_now parts
+    parts_are n end_of-Expr = refl
+    parts_are n (more_of-Expr e parts) = ap₂ (λ (x : CoreExpr) (xs : List CoreExpr). x ∷ xs) (resolution_is e) (parts_are _ parts)
 
 -- ---- what meets a type
 
@@ -87,6 +103,8 @@ taking_now given (in_range_of o place a low high) =
     (taking_now (taken (met_in_range (judged_now a) (judged_now low) (judged_now high)) (judged_now high)) high))
 taking_now given (element_of a place i x) = converted_now given (element_of a place i x) (element_of (taking_now None a) place (taking_now (taken (Of x.index.base) (judged_now i)) i) x)
 taking_now given (selected_of a field x) = converted_now given (selected_of a field x) (selected_of (taking_now None a) field x)
+taking_now given (array_attribute_of a designator x) = converted_now given (array_attribute_of a designator x) (array_attribute_of (taking_now None a) designator x)
+taking_now given (expr.Faulty faulty) = converted_now given (expr.Faulty faulty) (expr.Faulty faulty)
 
 -- parts that take types that are met: first what they are judged to be computes, then what becomes of them
 of_one : (f : CoreExpr → CoreExpr) (g : Judged Typing → Option BaseType) (a : CoreExpr) → taking (g (judged_now a)) a ≡ taking_now (g (judged_now a)) a → f (taking (g (judged a)) a) ≡ f (taking_now (g (judged_now a)) a)
@@ -140,6 +158,11 @@ taking_is given (element_of a place i x) =
     ∙ converted_is given whole _
 taking_is given (selected_of a field x) =
     taking-Selected given a field x ∙ ap (λ z. converted given (selected_of a field x) (selected_of z field x)) (taking_is None a) ∙ converted_is given (selected_of a field x) _
+taking_is given (array_attribute_of a designator x) =
+    taking-ArrayAttribute given a designator x
+    ∙ ap (λ z. converted given (array_attribute_of a designator x) (array_attribute_of z designator x)) (taking_is None a)
+    ∙ converted_is given (array_attribute_of a designator x) _
+taking_is given (expr.Faulty faulty) = taking-Faulty given faulty ∙ converted_is given _ _
 
 abbrev pub context_now : ExprType → CoreExpr → CoreExpr
 context_now of e = taking_now (taken of (judged_now e)) e
@@ -152,9 +175,9 @@ pub becomes : (e : CoreExpr) → is_open (judged_now e) ≡ false → (of : Expr
 becomes e closed of = ap (λ j. taking (taken of j) e) (judged_is e) ∙ ap (λ given. taking given e) (takes_none of (judged_now e) closed) ∙ taking_is None e
 
 -- a written expression where it meets a type
-module _ (items : List CoreDerivesItem) (around : Regions) (of : ExprType) (e : Expr) where
+module _ (scene : Scene) (around : Regions) (of : ExprType) (e : Expr) where
   abbrev pub met_now : CoreExpr
-  met_now = context_now of (resolved_now items around e)
+  met_now = context_now of (resolved_now scene around e)
 
-  pub met_is : in_context of (resolved_in items around e) ≡ met_now
-  met_is = ap (in_context of) (resolution_is items around e) ∙ context_is of (resolved_now items around e)
+  pub met_is : in_context of (resolved_in scene around e) ≡ met_now
+  met_is = ap (in_context of) (resolution_is scene around e) ∙ context_is of (resolved_now scene around e)

@@ -21,6 +21,7 @@ use Rattle.spx_core.specs.declared.expression.CoreExpr.TheVariants.{Name as name
 use Rattle.spx_core.specs.declared.name.CoreName.{CoreName}
 use Rattle.spx_core.specs.declared.name.Defining.{Defining}
 use Rattle.spx_core.specs.declared.name.Reference.{Reference}
+use Rattle.spx_core.specs.declared.part.Target.{Target}
 use Rattle.spx_core.specs.declared.program.Program.{Program}
 use Rattle.spx_core.specs.declared.program.TypeForm.TheVariants.{Scalar}
 use Rattle.spx_core.specs.declared.program.TypeRow.{TypeRow}
@@ -36,7 +37,7 @@ use Rattle.spx_core.specs.Judged.{Judged, ◌>>=◌, breach_in, each, expr_step,
 use Rattle.spx_core.specs.Obeyed.{obeyed_post, obeyed_pre}
 use Rattle.spx_core.specs.Places.{place_in}
 use Rattle.spx_core.specs.Regions.{Region, Regions}
-use Rattle.spx_core.specs.Resolved.{Counts, after_formals, around_body, around_names, at_start, bounded, constant_of, counted, counted_sub, declared_by, declared_by_decls, declaring as declared_after, declaring_all, defining, defining_all, formal_names, integer_type, object_of, or_zero, own_types, params_of, resolved, resolved_decl, resolved_decls, resolved_expr, resolved_reference, resolved_static, resolved_sub, row_with, rows_by, rows_by_decls, standard_types, subtype_of, target_at, type_named, unit_name, value_in}
+use Rattle.spx_core.specs.Resolved.{Before, after_formals, around_body, around_names, at_start, bounded, constant_of, counted, counted_sub, declared_by, declared_by_decls, declaring as declared_after, declaring_all, defining, defining_all, formal_names, in_code, in_declaration, integer_type, next_type, object_of, or_zero, own_types, params_of, resolved, resolved_decl, resolved_decls, resolved_expr, resolved_reference, resolved_static, resolved_sub, resolved_target, row_with, rows_by, rows_by_decls, standard_types, subtype_of, type_of_target, unit_name, value_in}
 use Rattle.spx_core.specs.Statements.{bound, declared_once, first_name_breach, judged_command, judged_decl, judged_end, judged_item, judged_name, judged_param, judged_predicate, static_between, static_number}
 use Rattle.spx_core.specs.Types.{has_numbers}
 use Rattle.spx_core.specs.Uses.{variable_of}
@@ -49,7 +50,6 @@ use Rattle.spx_meaning.specs.Runs.{Ended, assign, then_do, use_value}
 use Rattle.spx_meaning.specs.Stores.{Store}
 use Rattle.spx_formula.specs.Terms.{literal_or, named as termed, now_term, term_of, term_with-Name}
 use Rattle.spx_examples.specs.Declarations.{LiteralEnds, SumEnds, assigning_to, breach_at, color, declaring, denoted_in, denotes, number_in, resolved_alone, rule_breach_at, standing_for, stating, t, t_program, types_of, types_of_two, warm, warm_program}
-use Rattle.spx_examples.specs.Flag.{named}
 use Rattle.spx_examples.specs.Increment.{place, x_written}
 use Rattle.spx_examples.specs.NameRules.{alone}
 use Rattle.spx_examples.specs.Operators.{a, a_at, b_at, number, two, values}
@@ -102,7 +102,7 @@ constants region names type_name value = record {
 }
 
 -- variables that are declared with this value
-abbrev initialized : Region → Counts → List Identifier → Reference → Judged Typing → Seen
+abbrev initialized : Region → Before → List Identifier → Reference → Judged Typing → Seen
 initialized region before names type_name value =
     let defined = defining_all region (meaning.Variables (object_of (Initialized (or_zero (value_in value))) type_name)) before.vars names in
     record {
@@ -119,31 +119,31 @@ one_type region name subtype judgement = record {
   rows = row_with Scalar (defining region (entity.TypeName subtype) name) ∷ [];
 }
 
-abbrev numbers : Region → Counts → Identifier → (low high : Judged Typing) → Seen
-numbers region before name low high = one_type region name (integer_type before.types (value_in low) (value_in high)) (range_of None WIDEST_FIRST WIDEST_LAST low high)
+abbrev numbers : Region → Before → Identifier → (low high : Judged Typing) → Seen
+numbers region before name low high = one_type region name (integer_type (next_type before) (value_in low) (value_in high)) (range_of None WIDEST_FIRST WIDEST_LAST low high)
 
-abbrev narrowed_to : Region → Counts → Identifier → Reference → (low high : Judged Typing) → Seen
+abbrev narrowed_to : Region → Before → Identifier → Reference → (low high : Judged Typing) → Seen
 narrowed_to region before name parent low high =
-    one_type region name (bounded before.types (subtype_of parent.root.entity).base (value_in low) (value_in high))
+    one_type region name (bounded (next_type before) (subtype_of parent.root.entity).base (value_in low) (value_in high))
     (referred_type parent >>= λ subtype. keeps N10 parent.root.name.place (has_numbers subtype.base.class) >>= λ _. range_of (Some subtype.base) subtype.first subtype.last low high)
 
 -- what an expression that has to be static is judged to be
-abbrev static_now : Regions → Expr → Judged Typing
-static_now around = judged_met [] around Universal
+abbrev static_now : List TypeRow → Regions → Expr → Judged Typing
+static_now types around = judged_met (in_declaration types) around Universal
 
-static_is : (around : Regions) (e : Expr) → judged (resolved_static around e) ≡ static_now around e
-static_is around = judged_met_is [] around Universal
+static_is : (types : List TypeRow) (around : Regions) (e : Expr) → judged (resolved_static (in_declaration types) around e) ≡ static_now types around e
+static_is types around = judged_met_is (in_declaration types) around Universal
 
 module _ (outer : Regions) where
   -- the same, where expressions compute
-  abbrev seen_now : Region → Counts → Decl → Seen
+  abbrev seen_now : Region → Before → Decl → Seen
   seen_now region before (written_decl.Variables names type_name None) = seen (resolved_decl outer region before (written_decl.Variables names type_name None))
   seen_now region before (written_decl.Variables names type_name (Some value)) =
-      initialized region before names (resolved_reference (around_names outer region names) type_name) (static_now (around_names outer region names) value)
+      initialized region before names (resolved_reference (around_names outer region names) type_name) (static_now before.types (around_names outer region names) value)
   seen_now region before (written_decl.Constants names type_name value) =
-      constants region names (option_map (resolved_reference (around_names outer region names)) type_name) (static_now (around_names outer region names) value)
+      constants region names (option_map (resolved_reference (around_names outer region names)) type_name) (static_now before.types (around_names outer region names) value)
   seen_now region before (written_decl.FullType name (written_definition.Integer range)) =
-      numbers region before name (static_now (around_names outer region (name ∷ [])) range.low) (static_now (around_names outer region (name ∷ [])) range.high)
+      numbers region before name (static_now before.types (around_names outer region (name ∷ [])) range.low) (static_now before.types (around_names outer region (name ∷ [])) range.high)
   seen_now region before (written_decl.FullType name (written_definition.Enumeration place literals)) =
       seen (resolved_decl outer region before (written_decl.FullType name (written_definition.Enumeration place literals)))
   seen_now region before (written_decl.FullType name (written_definition.Array place index element)) =
@@ -153,35 +153,35 @@ module _ (outer : Regions) where
   seen_now region before (written_decl.Subtype name parent None) = seen (resolved_decl outer region before (written_decl.Subtype name parent None))
   seen_now region before (written_decl.Subtype name parent (Some range)) =
       narrowed_to region before name (resolved_reference (around_names outer region (name ∷ [])) parent)
-      (static_now (around_names outer region (name ∷ [])) range.low)
-      (static_now (around_names outer region (name ∷ [])) range.high)
+      (static_now before.types (around_names outer region (name ∷ [])) range.low)
+      (static_now before.types (around_names outer region (name ∷ [])) range.high)
 
-  seen_is : (region : Region) (before : Counts) (d : Decl) → seen (resolved_decl outer region before d) ≡ seen_now region before d
+  seen_is : (region : Region) (before : Before) (d : Decl) → seen (resolved_decl outer region before d) ≡ seen_now region before d
   seen_is region before (written_decl.Variables names type_name None) = refl
   seen_is region before (written_decl.Variables names type_name (Some value)) =
-      ap (initialized region before names (resolved_reference (around_names outer region names) type_name)) (static_is (around_names outer region names) value)
-  seen_is region before (written_decl.Constants names None value) = ap (constants region names None) (static_is (around_names outer region names) value)
+      ap (initialized region before names (resolved_reference (around_names outer region names) type_name)) (static_is before.types (around_names outer region names) value)
+  seen_is region before (written_decl.Constants names None value) = ap (constants region names None) (static_is before.types (around_names outer region names) value)
   seen_is region before (written_decl.Constants names (Some type_name) value) =
-      ap (constants region names (Some (resolved_reference (around_names outer region names) type_name))) (static_is (around_names outer region names) value)
+      ap (constants region names (Some (resolved_reference (around_names outer region names) type_name))) (static_is before.types (around_names outer region names) value)
   seen_is region before (written_decl.FullType name (written_definition.Integer range)) =
-      ap₂ (numbers region before name) (static_is (around_names outer region (name ∷ [])) range.low) (static_is (around_names outer region (name ∷ [])) range.high)
+      ap₂ (numbers region before name) (static_is before.types (around_names outer region (name ∷ [])) range.low) (static_is before.types (around_names outer region (name ∷ [])) range.high)
   seen_is region before (written_decl.FullType name (written_definition.Enumeration place literals)) = refl
   seen_is region before (written_decl.FullType name (written_definition.Array place index element)) = refl
   seen_is region before (written_decl.FullType name (written_definition.Record fields end)) = refl
   seen_is region before (written_decl.Subtype name parent None) = refl
   seen_is region before (written_decl.Subtype name parent (Some range)) =
       ap₂ (narrowed_to region before name (resolved_reference (around_names outer region (name ∷ [])) parent))
-      (static_is (around_names outer region (name ∷ [])) range.low)
-      (static_is (around_names outer region (name ∷ [])) range.high)
+      (static_is before.types (around_names outer region (name ∷ [])) range.low)
+      (static_is before.types (around_names outer region (name ∷ [])) range.high)
 
-  abbrev all_now : Region → Counts → List Decl → Seen
+  abbrev all_now : Region → Before → List Decl → Seen
   all_now region before [] = record { judgement = Ok tt; names = []; rows = [] }
   all_now region before (d ∷ ds) = join (seen_now region before d) (all_now (declaring_all region (seen_now region before d).names) (counted before (resolved_decl outer region before d)) ds)
 
-  all_seen : (region : Region) (before : Counts) (ds : List Decl) → seen_decls (resolved_decls outer region before ds) ≡ all_now region before ds
+  all_seen : (region : Region) (before : Before) (ds : List Decl) → seen_decls (resolved_decls outer region before ds) ≡ all_now region before ds
   all_seen region before [] = refl
   all_seen region before (d ∷ ds) =
-      let after : Counts = counted before (resolved_decl outer region before d) in
+      let after : Before = counted before (resolved_decl outer region before d) in
       ap (λ (a : Seen). join a (seen_decls (resolved_decls outer (declaring_all region a.names) after ds))) (seen_is region before d)
       ∙ ap (join (seen_now region before d)) (all_seen (declaring_all region (seen_now region before d).names) after ds)
 
@@ -205,6 +205,10 @@ module _ (ds : List Decl) (statement : Stmt) where
   abbrev pub seen_there : List Defining → Region
   seen_there names = declaring_all [] (formal_names first ++ names)
 
+  -- and the types that stand before it, where these are the rows of its declarations
+  abbrev pub types_there : List TypeRow → List TypeRow
+  types_there rows = standard_types ++ rows
+
   abbrev pub inside : List Defining → Regions
   inside names = seen_there names ∷ around
 
@@ -222,13 +226,13 @@ module _ (ds : List Decl) (statement : Stmt) where
   abbrev pub breach_with : (declarations body : Judged ⊤) → Option Breach
   breach_with declarations body = breach_in (each judged_name (first ∷ []) >>= λ _. and_no_more (sub_with declarations body))
 
-  abbrev pub body_after : List Defining → Command
-  body_after names = body_of (relation first) around (seen_there names) (first_position first) (statement ∷ [])
+  abbrev pub body_after : Seen → Command
+  body_after s = body_of (types_there s.rows) (relation first) around (seen_there s.names) (first_position first) (statement ∷ [])
 
   -- where its body is judged to be this after its declarations
-  pub breach_where : (body : Judged ⊤) → judged_command (body_after now.names) ≡ body → first_name_breach (alone (stating ds statement)) ≡ breach_with now.judgement body
+  pub breach_where : (body : Judged ⊤) → judged_command (body_after now) ≡ body → first_name_breach (alone (stating ds statement)) ≡ breach_with now.judgement body
   unfolding first_name_breach
-  breach_where body is = ap (λ (s : Seen). breach_with s.judgement (judged_command (body_after s.names))) now_is ∙ ap (breach_with now.judgement) is
+  breach_where body is = ap (λ (s : Seen). breach_with s.judgement (judged_command (body_after s))) now_is ∙ ap (breach_with now.judgement) is
 
 module _ (ds : List Decl) (target : Name) (value : Expr) where
   abbrev set : Stmt
@@ -238,18 +242,25 @@ module _ (ds : List Decl) (target : Name) (value : Expr) where
   abbrev around_set : Regions
   around_set = inside ds set (now ds set).names
 
-  pub breach_is : breach_at ds target value ≡ breach_with ds set (now ds set).judgement (and_no_more (assignment_now around_set target value))
-  breach_is = breach_where ds set (and_no_more (assignment_now around_set target value)) (body_is (relation (first ds set)) (around ds set) (seen_there ds set (now ds set).names) (first_position (first ds set)) target value)
+  -- the types before it
+  abbrev types_set : List TypeRow
+  types_set = types_there ds set (now ds set).rows
 
-  -- the assignment, where its names denote what they do after these declarations
+  pub breach_is : breach_at ds target value ≡ breach_with ds set (now ds set).judgement (and_no_more (assignment_now types_set around_set target value))
+  breach_is = breach_where ds set (and_no_more (assignment_now types_set around_set target value)) (body_is types_set (relation (first ds set)) (around ds set) (seen_there ds set (now ds set).names) (first_position (first ds set)) target value)
+
+  -- its target, and the assignment, where its names denote what they do after these declarations
+  abbrev whole : Target
+  whole = resolved_target types_set around_set target
+
   abbrev setting : Command
-  setting = Then (Set (target_at (resolved_reference around_set target)) (resolved_expr (type_named around_set target) around_set value)) Skip
+  setting = Then (Set whole (resolved_expr (in_code types_set) (type_of_target whole) around_set value)) Skip
 
   setting_is : commands (first ds set).statements ≡ setting
   setting_is =
-      ap (λ (s : Seen). body_after ds set s.names) (now_is ds set)
-      ∙ ap (λ made. commands (as_body made)) (resolved_assignment (relation (first ds set)) (around ds set) (seen_there ds set (now ds set).names) (first_position (first ds set)) target value)
-      ∙ assignment_is (resolved_reference around_set target) (resolved_expr (type_named around_set target) around_set value)
+      ap (λ (s : Seen). body_after ds set s) (now_is ds set)
+      ∙ ap (λ made. commands (as_body made)) (resolved_assignment types_set (relation (first ds set)) (around ds set) (seen_there ds set (now ds set).names) (first_position (first ds set)) target value)
+      ∙ assignment_is whole (resolved_expr (in_code types_set) (type_of_target whole) around_set value)
 
   pub rule_breach_is : rule_breach_at ds target value ≡ rules.breach_with (first ds set) [] (if_there (obeyed_pre (first ds set)) (first ds set).pre) (if_there (obeyed_post (first ds set)) (first ds set).post) setting
   unfolding rule_breach_at
@@ -268,15 +279,15 @@ unfolding types_of
 types_are ds = ap (λ (s : Seen). standard_types ++ (s.rows ++ [])) (now_is ds set_x)
 
 -- the rows of the procedure with this name, after so many
-abbrev rows_after : Defining → Counts → List Decl → List TypeRow
+abbrev rows_after : Defining → Before → List Decl → List TypeRow
 rows_after name before ds = (all_now (around_body name) (declaring_all [] (formal_names (resolved_sub name before (declaring ds)))) (after_formals before (resolved_sub name before (declaring ds)).formal_part) ds).rows
 
-rows_are : (name : Defining) (before : Counts) (ds : List Decl) → own_types (resolved_sub name before (declaring ds)) ≡ rows_after name before ds
+rows_are : (name : Defining) (before : Before) (ds : List Decl) → own_types (resolved_sub name before (declaring ds)) ≡ rows_after name before ds
 rows_are name before ds =
     ap (λ (s : Seen). s.rows) (all_seen (around_body name) (declaring_all [] (formal_names (resolved_sub name before (declaring ds)))) (after_formals before (resolved_sub name before (declaring ds)).formal_part) ds)
 
 -- what stands after the first procedure
-abbrev after : List Decl → Counts
+abbrev after : List Decl → Before
 after ds = counted_sub at_start (resolved_alone (declaring ds))
 
 abbrev second_name : List Decl → List Decl → Defining
@@ -301,14 +312,14 @@ pub sum_ends : (m n : ℤ) → SumEnds m n (then_do (use_value (sum_of m n) (ass
 sum_ends m n sub entry bound =
     let s : Store = values (number m) (number n) in
     let f : Frame = surrounded t_program sub entry in
-    assigns f bound s (named (a_at t 1)) (two op.Add t) (sum_of m n) (eval_two f bound s op.Add t)
+    assigns f bound s (a_at t 1) (two op.Add t) (sum_of m n) (eval_two f bound s op.Add t)
     ∙ ap (λ at. then_do (use_value (sum_of m n) (assign t_program at (Some a) s)) Ended) (fold-Infix place_in op.Add (place 1 3) (named_expr (a_at t 1)) (named_expr (b_at t 12)))
 
 pub literal_ends : (n : ℤ) → LiteralEnds n (then_do (assign warm_program (place 1 12) (Some a) (None ∷ []) (number n)) Ended)
 literal_ends n sub entry bound =
     let f : Frame = surrounded warm_program sub entry in
     let c : CoreName = standing_for (entity.Literal color n) in
-    assigns f bound (None ∷ []) (named (a_at warm 1)) (named_expr c) (Gives (number n)) (eval_name f bound (None ∷ []) c)
+    assigns f bound (None ∷ []) (a_at warm 1) (named_expr c) (Gives (number n)) (eval_name f bound (None ∷ []) c)
     ∙ ap (λ at. then_do (assign warm_program at (Some a) (None ∷ []) (number n)) Ended) (fold-Name place_in c)
 
 -- a name as a term

@@ -18,7 +18,6 @@ use Rattle.spx_core.specs.Commands.{Command, Skip, Set, Then, Assertion, Repeat,
 use Rattle.spx_core.specs.Places.{place_of}
 use Rattle.spx_core.specs.Uses.{variable_of}
 use Rattle.spx_core.proofs.Callers.CommandForms.{command-Assertion, command-Assignment, command-For}
-use Rattle.spx_core.specs.Resolved.{target_at}
 use Rattle.spx_term.specs.declared.condition.CondKind.TheVariants as kind
 use Rattle.spx_term.specs.declared.term.Term.{Term, out-Term}
 use Rattle.spx_term.specs.declared.term.Term.TheBlock.{hidden-the_row-Term-0, shown-the_row-Term-0, the_depth}
@@ -32,23 +31,23 @@ use Rattle.spx_formula.specs.Terms.{entry, entry_term, first_name, last_name, no
 use Rattle.spx_paths.specs.Walks.{assigned, cuts, ending, enter_range, high_term, low_term, range_goal, start_tree, trees_of, walk}
 use Rattle.spx_paths.specs.Conditions.{conditions_of, numbered}
 use Rattle.spx_examples.specs.Doubling.{add_two, asserting, closing, compared, count, counting, double as sub, double_command, double_program as p, equals_twice, i, i_now, in_bounds, in_integer, n_at, n_now, number, one_to_n, post_after_turn, post_without_turn, required, s, s_at, s_is_twice_i, s_is_twice_n, s_now, turn, two_more}
-use Rattle.spx_examples.specs.Flag.{named}
 use Rattle.spx_examples.specs.Increment.{place}
 use Rattle.spx_examples.proofs.Computing.{checks_are, checks_now, claims_are, claims_now, fixed_is, place_is, place_now, term_is, term_now}
 use Rattle.spx_examples.proofs.Trees.{conditions_from, trees_are}
+use Rattle.spx_examples.specs.Names.{target_to}
 
 -- ---- its statements
 
 turn_command : commands (add_two ∷ asserting ∷ []) ≡ turn
-turn_command = ap₂ (λ (a b : Command). Then a (Then b Skip)) (command-Assignment (target_at (named (s_at 9 7))) two_more) (command-Assertion assertion.Assert (place 10 11) s_is_twice_i)
+turn_command = ap₂ (λ (a b : Command). Then a (Then b Skip)) (command-Assignment (target_to (s_at 9 7)) two_more) (command-Assertion assertion.Assert (place 10 11) s_is_twice_i)
 
 pub commands_are : commands sub.statements ≡ double_command
 commands_are =
-    ap₂ (λ (a b : Command). Then a (Then b Skip)) (command-Assignment (target_at (named (s_at 7 4))) (number (pos 0) 7 9))
+    ap₂ (λ (a b : Command). Then a (Then b Skip)) (command-Assignment (target_to (s_at 7 4)) (number (pos 0) 7 9))
     (command-For counting (scheme.For count) (place 8 34) (add_two ∷ asserting ∷ []) closing count refl refl ∙ ap (Repeat (Counted count)) turn_command)
 
 module _ (target : CoreName) (e : CoreExpr) (rest leave : ℕ → Tree) (made : ℕ) where
-  set_is : walk p sub (Set (target_at (named target)) e) rest leave made
+  set_is : walk p sub (Set (target_to target) e) rest leave made
       ≡ checks_now p (now_term p) [] e (assigned p (place_now e) (variable_of target.entity) (term_now (now_term p) (now_term p) e) (rest made))
   set_is =
       checks_are p (now_term p) [] e _
@@ -68,7 +67,7 @@ sum = term.Infix sign.Add s_now (term.Number (pos 2))
 abbrev adding : Tree → Tree
 adding rest = check kind.Overflow (place 9 14) (in_integer sum) (check kind.Range (place 9 14) (in_integer sum) (Assign (now p s) sum rest))
 
-add_is : (rest leave : ℕ → Tree) (made : ℕ) → walk p sub (Set (target_at (named (s_at 9 7))) two_more) rest leave made ≡ adding (rest made)
+add_is : (rest leave : ℕ → Tree) (made : ℕ) → walk p sub (Set (target_to (s_at 9 7)) two_more) rest leave made ≡ adding (rest made)
 unfolding hidden-the_row-CoreExpr-0 hidden
 add_is rest leave made = set_is (s_at 9 7) two_more rest leave made
 

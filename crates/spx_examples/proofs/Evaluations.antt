@@ -8,14 +8,12 @@ use Rattle.spx_core.specs.declared.entity.TheConstants.{INTEGER}
 use Rattle.spx_core.specs.declared.expression.CoreExpr.{CoreExpr}
 use Rattle.spx_core.specs.declared.expression.CoreExpr.TheVariants.{Name, Prefix, Infix}
 use Rattle.spx_core.specs.declared.name.CoreName.{CoreName}
-use Rattle.spx_core.specs.declared.name.Reference.{Reference}
 use Rattle.spx_core.specs.declared.rule.ExprType.TheVariants.{Of}
 use Rattle.spx_core.specs.declared.rule.Typing.{Typing}
 use Rattle.spx_core.specs.declared.statement.CoreStmt.TheVariants.{Assignment}
 use Rattle.spx_core.specs.Commands.{commands}
 use Rattle.spx_core.specs.Judged.{Judged, expr_step, judged, named_value, typing}
 use Rattle.spx_core.specs.Places.{place_of}
-use Rattle.spx_core.specs.Resolved.{target_at}
 use Rattle.spx_core.specs.Uses.{variable_of}
 use Rattle.spx_core.proofs.Callers.Expressions.{fold-Name, fold-Infix}
 use Rattle.spx_meaning.specs.declared.bad.BadKind.{BadKind}
@@ -24,14 +22,15 @@ use Rattle.spx_meaning.specs.Frames.{Frame}
 use Rattle.spx_meaning.specs.Evaluation.{Answer, Fails, with_value, checked, decided, signed, static_or, read, eval, eval-Name, eval-Prefix, eval-Infix}
 use Rattle.spx_meaning.specs.Literals.{base_judged, base_of, literal, literal_in}
 use Rattle.spx_meaning.specs.Runs.{Outcome, Ended, then_do, use_value, assign, run}
+use Rattle.spx_examples.specs.Names.{target_to}
 use Rattle.spx_examples.proofs.Statements.{assignment_is, operating}
 
 -- the target takes this answer
-abbrev pub taking : Frame → Store → Reference → CoreExpr → Answer → Outcome
-taking f s target e answer = then_do (use_value answer (assign f.program (place_of e) (variable_of target.root.entity) s)) Ended
+abbrev pub taking : Frame → Store → CoreName → CoreExpr → Answer → Outcome
+taking f s target e answer = then_do (use_value answer (assign f.program (place_of e) (variable_of target.entity) s)) Ended
 
-pub assigns : (f : Frame) (n : ℕ) (s : Store) (target : Reference) (e : CoreExpr) (answer : Answer) → eval f n s e ≡ answer → run f n s (commands (Assignment (target_at target) e ∷ [])) ≡ taking f s target e answer
-assigns f n s target e answer is = ap (run f n s) (assignment_is target e) ∙ ap (taking f s target e) is
+pub assigns : (f : Frame) (n : ℕ) (s : Store) (target : CoreName) (e : CoreExpr) (answer : Answer) → eval f n s e ≡ answer → run f n s (commands (Assignment (target_to target) e ∷ [])) ≡ taking f s target e answer
+assigns f n s target e answer is = ap (run f n s) (assignment_is (target_to target) e) ∙ ap (taking f s target e) is
 
 -- a number that is not static
 abbrev pub numeric : Place → Judged Typing

@@ -19,14 +19,14 @@ use Rattle.spx_core.specs.FlowRules.{body_effect, HasNoFlowFinding}
 use Rattle.spx_core.specs.Reads.{names_read, names_step}
 use Rattle.spx_core.specs.Uses.{variable_of}
 use Rattle.spx_core.proofs.Callers.Expressions.{fold-Name, fold-Number, fold-Infix}
-use Rattle.spx_core.specs.Resolved.{target_at}
 use Rattle.spx_examples.specs.Assertions.{checks_local, checks_import}
 use Rattle.spx_examples.specs.Branches.{arm}
-use Rattle.spx_examples.specs.Increment.{place, x, x_at, x_named, successor, step}
-use Rattle.spx_examples.specs.Flag.{y, named, y_at, positive, setting, closing, flag, flag_program, flag_effect}
+use Rattle.spx_examples.specs.Increment.{place, x, x_at, successor, step}
+use Rattle.spx_examples.specs.Flag.{y, y_at, positive, setting, closing, flag, flag_program, flag_effect}
 use Rattle.spx_examples.specs.Flag as in_flag
 use Rattle.spx_examples.specs.Found.{Finds, nothing_found}
 use Rattle.spx_examples.specs.Findings.{gives, declared, by_star, undeclared, overdeclared, with_formal, local_y_at, inc_with_local, with_local, positive_at, reads_after_arm, out_with_local, gives_seven, gives_unset, gives_set, overwrites, decides_nothing, sets_in_both, as_flag, seven_program, seven_y_at}
+use Rattle.spx_examples.specs.Names.{target_to}
 use Rattle.spx_examples.specs.Variants.{out_x_at}
 use Rattle.spx_examples.proofs.Statements.{null_is, assignment_is, assertion_is, if_is}
 use Rattle.spx_examples.proofs.Successor.{step_effect}
@@ -46,7 +46,7 @@ module _ (rest : List CoreStmt) where
   -- `target := value`, where the value reads these names
   giving : (target : CoreName) (value : CoreExpr) (names : List CoreName) → names_read value ≡ names → effects (gives target value ∷ rest) ≡ next (assign (variable_of target.entity) (filter_map read_of names) target.name.place) (effects rest)
   giving target value names are =
-      first_effect (gives target value) (Set (target_at (named target)) value) (assignment_is (named target) value)
+      first_effect (gives target value) (Set (target_to target) value) (assignment_is (target_to target) value)
       ∙ ap (λ names. next (assign (variable_of target.entity) (filter_map read_of names) target.name.place) (effects rest)) (ap (λ (read : List CoreName). read ++ []) are ∙ append-nil names)
 
   giving_name : (target name : CoreName) → effects (gives target (Name name) ∷ rest) ≡ next (assign (variable_of target.entity) (filter_map read_of (name ∷ [])) target.name.place) (effects rest)
@@ -56,7 +56,7 @@ module _ (rest : List CoreStmt) where
   giving_number target n at = giving target (Number n at) [] (fold-Number names_step n at)
 
   stepping : effects (step ∷ rest) ≡ next (assign (Some x) ((place 6 9, x) ∷ []) (place 6 4)) (effects rest)
-  stepping = first_effect step (Set (target_at (x_named 6 4)) (successor 6 9)) (assignment_is (x_named 6 4) (successor 6 9)) ∙ ap (λ e. next e (effects rest)) (step_effect 6 4 9)
+  stepping = first_effect step (Set (target_to (x_at 6 4)) (successor 6 9)) (assignment_is (target_to (x_at 6 4)) (successor 6 9)) ∙ ap (λ e. next e (effects rest)) (step_effect 6 4 9)
 
   -- an `if` whose condition reads these names
   choosing : (s : CoreStmt) (at : Place) (condition : CoreExpr) (a b : Command) (names : List CoreName) → commands (s ∷ []) ≡ Then (Choose at condition a b) Skip → names_read condition ≡ names → leaves a ≡ false
@@ -118,7 +118,7 @@ both_effect =
     let first = setting ∷ [] in
     let second = gives (y_at 8 7) (Number (pos 0) (place 8 12)) ∷ [] in
     let closing : Closing = record { end = place 9 4; word = place 9 8 } in
-    choosing [] (stmt.If (arm (place 5 4) positive first ∷ []) (Some second) closing) (place 5 4) positive (commands first) (commands second) _ (if_else_is (place 5 4) positive first second closing) condition_reads (ap leaves (assignment_is (named (y_at 6 7)) (Number (pos 1) (place 6 12))))
+    choosing [] (stmt.If (arm (place 5 4) positive first ∷ []) (Some second) closing) (place 5 4) positive (commands first) (commands second) _ (if_else_is (place 5 4) positive first second closing) condition_reads (ap leaves (assignment_is (target_to (y_at 6 7)) (Number (pos 1) (place 6 12))))
     ∙ ap₂ (λ one other. next (where_positive one other) nothing) (giving_number [] (y_at 6 7) (pos 1) (place 6 12)) (giving_number [] (y_at 8 7) (pos 0) (place 8 12))
 
 arm_effect : body_effect reads_after_arm ≡ next (choose ((place 6 7, x) ∷ []) (next (assign (Some y) [] (place 7 7)) nothing) nothing (place 6 4)) (next (assign (Some x) ((place 9 9, y) ∷ []) (place 9 4)) nothing)
@@ -127,7 +127,7 @@ arm_effect =
     let rest = gives (x_at 9 4) (Name (local_y_at 9 9)) ∷ [] in
     let closing : Closing = record { end = place 8 4; word = place 8 8 } in
     let test = fold-Infix names_step op.Greater (place 6 9) (Name (x_at 6 7)) (Number (pos 0) (place 6 11)) ∙ ap₂ (λ (a b : List CoreName). a ++ b) (fold-Name names_step (x_at 6 7)) (fold-Number names_step (pos 0) (place 6 11)) in
-    choosing rest (stmt.If (arm (place 6 4) (positive_at 6) body ∷ []) None closing) (place 6 4) (positive_at 6) (commands body) Skip _ (if_is (place 6 4) (positive_at 6) body closing) test (ap leaves (assignment_is (named (local_y_at 7 7)) (Number (pos 1) (place 7 12))))
+    choosing rest (stmt.If (arm (place 6 4) (positive_at 6) body ∷ []) None closing) (place 6 4) (positive_at 6) (commands body) Skip _ (if_is (place 6 4) (positive_at 6) body closing) test (ap leaves (assignment_is (target_to (local_y_at 7 7)) (Number (pos 1) (place 7 12))))
     ∙ ap₂ (λ one after. next (choose ((place 6 7, x) ∷ []) one nothing (place 6 4)) after) (giving_number [] (local_y_at 7 7) (pos 1) (place 7 12)) (giving_name [] (x_at 9 4) (local_y_at 9 9))
 
 unset_effect : body_effect gives_unset ≡ next (assign (Some x) ((place 6 9, y) ∷ []) (place 6 4)) nothing

@@ -17,7 +17,6 @@ use Rattle.spx_core.specs.Ways.{Free, Goes}
 use Rattle.spx_core.specs.FlowRules.{body_effect, MayBeUnset, left}
 use Rattle.spx_core.specs.Places.{place_of}
 use Rattle.spx_core.proofs.Callers.Expressions.{fold-Name, fold-Number, fold-Infix}
-use Rattle.spx_core.specs.Resolved.{target_at}
 use Rattle.spx_term.specs.declared.value.Value.{Value}
 use Rattle.spx_term.specs.declared.value.Value.TheVariants as value
 use Rattle.spx_term.specs.Meaning.{as_truth, value_of_op}
@@ -28,18 +27,19 @@ use Rattle.spx_meaning.specs.Evaluation.{Answer, Gives, with_value, applied, rea
 use Rattle.spx_meaning.specs.Runs.{Outcome, Ended, Bad, then_do, use_value, run, call, entry_of}
 use Rattle.spx_meaning.specs.Runs as runs
 use Rattle.spx_examples.specs.Increment.{place, x}
-use Rattle.spx_examples.specs.Flag.{y, x_at, y_at, named, positive, one, setting, closing, branch, flag, flag_program, flag_effect}
+use Rattle.spx_examples.specs.Flag.{y, x_at, y_at, positive, one, setting, closing, branch, flag, flag_program, flag_effect}
 use Rattle.spx_examples.proofs.Evaluations.{eval_name, eval_operated}
 use Rattle.spx_examples.proofs.Statements.{assignment_is, if_is, operating, and_no_more, to_end}
+use Rattle.spx_examples.specs.Names.{target_to}
 
 -- ---- rules
 
 -- where X is positive, Y := 1
 abbrev branch_command : Command
-branch_command = Choose (place 5 4) positive (Then (Set (target_at (named (y_at 6 7))) one) Skip) Skip
+branch_command = Choose (place 5 4) positive (Then (Set (target_to (y_at 6 7)) one) Skip) Skip
 
 pub flag_command : commands (branch ∷ []) ≡ Then branch_command Skip
-flag_command = if_is (place 5 4) positive (setting ∷ []) closing ∙ ap (λ body. Then (Choose (place 5 4) positive body Skip) Skip) (assignment_is (named (y_at 6 7)) one)
+flag_command = if_is (place 5 4) positive (setting ∷ []) closing ∙ ap (λ body. Then (Choose (place 5 4) positive body Skip) Skip) (assignment_is (target_to (y_at 6 7)) one)
 
 judged_positive : judged positive ≡ Ok (typing (Of BOOLEAN.base) None (place 5 9))
 judged_positive =

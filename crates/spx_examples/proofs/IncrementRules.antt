@@ -12,13 +12,14 @@ use Rattle.spx_core.specs.declared.statement.Around.TheVariants.{Other}
 use Rattle.spx_core.specs.Obeyed.{Obeys, obeyed_command, reads_import}
 use Rattle.spx_core.specs.Reads.{names_read, names_step}
 use Rattle.spx_core.proofs.Callers.Expressions.{fold-Name, fold-Attribute, fold-Infix}
-use Rattle.spx_examples.specs.Increment.{place, word, x_at, x_named, integer_at, integer_last, below_last, successor, step, inc, increment}
+use Rattle.spx_examples.specs.Increment.{place, word, x_at, integer_at, integer_last, below_last, successor, step, inc, increment}
 use Rattle.spx_examples.proofs.Statements.{assignment_is, and_no_more}
 use Rattle.spx_examples.proofs.IncrementTypes.{judged_below}
 use Rattle.spx_examples.proofs.Successor.{step_command, step_typed}
+use Rattle.spx_examples.specs.Names.{target_to}
 
 pub inc_command : commands (step ∷ []) ≡ Then (step_command 6 4 9) Skip
-inc_command = assignment_is (x_named 6 4) (successor 6 9)
+inc_command = assignment_is (target_to (x_at 6 4)) (successor 6 9)
 
 -- the procedure, where its precondition and its body are judged to be this
 abbrev sub_judged : Judged Typing → Judged ⊤ → Judged ⊤

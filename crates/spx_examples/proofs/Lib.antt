@@ -1,6 +1,8 @@
 mod Answers
 mod Statements
 mod Contexts
+mod Names
+mod WrittenExpressions
 mod Resolving
 mod Successor
 mod OneVariable

@@ -17,7 +17,6 @@ use Rattle.spx_core.specs.Judged as rules
 use Rattle.spx_core.specs.Places.{place_in}
 use Rattle.spx_core.proofs.Callers.Expressions.{fold-Name, fold-Number, fold-Parenthesized, fold-Prefix}
 use Rattle.spx_core.proofs.Callers.CommandForms.{command-Assignment}
-use Rattle.spx_core.specs.Resolved.{target_at}
 use Rattle.spx_term.specs.declared.value.Value.{Value}
 use Rattle.spx_term.specs.declared.value.Value.TheVariants as value
 use Rattle.spx_term.specs.Meaning.{as_truth, value_of_op, value_of_prefix}
@@ -26,7 +25,8 @@ use Rattle.spx_meaning.specs.Stores.{Store}
 use Rattle.spx_meaning.specs.Frames.{Frame, around}
 use Rattle.spx_meaning.specs.Evaluation.{Answer, Gives, Fails, with_value, signed, read, eval, eval-Number, eval-Parenthesized}
 use Rattle.spx_meaning.specs.Runs.{Outcome, Ended, Bad, then_do, use_value, run, call}
-use Rattle.spx_examples.specs.Increment.{place, x, x_at, x_named, successor}
+use Rattle.spx_examples.specs.Increment.{place, x, x_at, successor}
+use Rattle.spx_examples.specs.Names.{target_to}
 use Rattle.spx_examples.specs.Variants.{number, local_y_at, local_sub, local_program, only_null, giving, the_local, negated, past_last, local_and_sum, sum_and_local, twice, local_above, testing}
 use Rattle.spx_examples.proofs.Evaluations.{taking, assigns, eval_name, eval_signed, numeric, sum_is_not_static, comparison_is_not_static, left_fails}
 use Rattle.spx_examples.proofs.Statements.{null_is, assignment_is, if_is, and_no_more, to_end}
@@ -48,8 +48,8 @@ null_keeps n v w = ap (λ c. to_end (local_sub only_null) (run (around_local onl
 -- ---- one assignment
 
 gives : (n : ℕ) (e : CoreExpr) (v w : Option Value) (answer : Answer) → eval (around_local (giving e) v) n (unset_after v) e ≡ answer
-    → call (local_program (giving e)) n (local_sub (giving e)) (v ∷ w ∷ []) ≡ to_end (local_sub (giving e)) (taking (around_local (giving e) v) (unset_after v) (x_named 6 4) e answer)
-gives n e v w answer is = ap (to_end (local_sub (giving e))) (assigns (around_local (giving e) v) n (unset_after v) (x_named 6 4) e answer is)
+    → call (local_program (giving e)) n (local_sub (giving e)) (v ∷ w ∷ []) ≡ to_end (local_sub (giving e)) (taking (around_local (giving e) v) (unset_after v) (x_at 6 4) e answer)
+gives n e v w answer is = ap (to_end (local_sub (giving e))) (assigns (around_local (giving e) v) n (unset_after v) (x_at 6 4) e answer is)
 
 -- ---- a read of the local
 
@@ -86,7 +86,7 @@ eval_negated : (f : Frame) (n : ℕ) (s : Store) → eval f n s negated ≡ nega
 eval_negated f n s = eval_signed f n s Minus (place 6 9) (Name (x_at 6 11)) _ _ judged_negated (eval_name f n s (x_at 6 11))
 
 gives_negated : (n : ℕ) (v w : Option Value) → call (local_program (giving negated)) n (local_sub (giving negated)) (v ∷ w ∷ [])
-    ≡ to_end (local_sub (giving negated)) (taking (around_local (giving negated) v) (unset_after v) (x_named 6 4) negated (negated_of (read (unset_after v) (place 6 11) (Some x))))
+    ≡ to_end (local_sub (giving negated)) (taking (around_local (giving negated) v) (unset_after v) (x_at 6 4) negated (negated_of (read (unset_after v) (place 6 11) (Some x))))
 gives_negated n v w = gives n negated v w (negated_of (read (unset_after v) (place 6 11) (Some x))) (eval_negated (around_local (giving negated) v) n (unset_after v))
 
 pub negates : (n : ℕ) (w : Option Value) → call (local_program (giving negated)) n (local_sub (giving negated)) (number (pos 41) ∷ w ∷ []) ≡ Ended (number (negsuc 40) ∷ None ∷ [])
@@ -101,7 +101,7 @@ negation_overflows n w = gives_negated n (number INTEGER_FIRST) w
 
 pub literal_refused : judged_program (local_program (giving past_last)) ≡ Err (record { rule = N12; place = place 6 9 })
 literal_refused =
-    ap (λ body. and_no_more (and_no_more (judged_command body))) (assignment_is (x_named 6 4) past_last)
+    ap (λ body. and_no_more (and_no_more (judged_command body))) (assignment_is (target_to (x_at 6 4)) past_last)
     ∙ ap (λ right. and_no_more (and_no_more (and_no_more (right >>= λ v. operand_of INTEGER v)))) (fold-Number expr_step (pos 2147483648) (place 6 9))
 
 pub literal_past_last : (n : ℕ) (v w : Option Value) → call (local_program (giving past_last)) n (local_sub (giving past_last)) (v ∷ w ∷ []) ≡ Bad Range (place 6 9)
@@ -139,7 +139,7 @@ sum_before_local n w =
 -- ---- one statement after the other
 
 twice_command : commands twice ≡ Then (step_command 6 4 9) (Then (step_command 6 16 21) Skip)
-twice_command = ap₂ Then (command-Assignment (target_at (x_named 6 4)) (successor 6 9)) (assignment_is (x_named 6 16) (successor 6 21))
+twice_command = ap₂ Then (command-Assignment (target_to (x_at 6 4)) (successor 6 9)) (assignment_is (target_to (x_at 6 16)) (successor 6 21))
 
 -- X := X + 1 at this place, whose X is read at the other
 abbrev stepped : Frame → Store → Place → Place → Outcome

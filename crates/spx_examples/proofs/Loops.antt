@@ -3,15 +3,15 @@ use Rattle.std.proofs.Common.{◌≡◌, ℕ, zero, suc, pos, if◌then◌else�
 use Rattle.spx_core.specs.declared.expression.CoreExpr.TheVariants.{Number}
 use Rattle.spx_core.specs.Commands.{Set}
 use Rattle.spx_core.specs.Places.{place_of}
-use Rattle.spx_core.specs.Resolved.{target_at}
 use Rattle.spx_term.specs.declared.value.Value.TheVariants as value
 use Rattle.spx_term.specs.Meaning.{as_truth, value_of_op}
 use Rattle.spx_meaning.specs.Stores.{Store}
 use Rattle.spx_meaning.specs.Frames.{Frame, around}
 use Rattle.spx_meaning.specs.Evaluation.{Answer, Gives, read, eval-Number}
 use Rattle.spx_meaning.specs.Runs.{Outcome, Ended, Later, after_turn, assign, run, then_do, use_value}
-use Rattle.spx_examples.specs.Increment.{place, x, x_named}
+use Rattle.spx_examples.specs.Increment.{place, x, x_at}
 use Rattle.spx_examples.specs.Loops.{counting, counting_again, endless, runs_from}
+use Rattle.spx_examples.specs.Names.{target_to}
 use Rattle.spx_examples.specs.Operators.{true_at}
 use Rattle.spx_examples.specs.Refused.{inc_without_pre, increment_without_pre}
 use Rattle.spx_examples.proofs.Evaluations.{eval_name}
@@ -36,7 +36,7 @@ module _ (f : Frame) (s : Store) where
   turn n = ap₂ (turning n) (eval_below f (suc n) s) (step_runs f n s 6 7 12)
 
   -- `X := 98`
-  given : (n : ℕ) → run f n s (Set (target_at (x_named 8 4)) (Number (pos 98) (place 8 9))) ≡ use_value (Gives (value.Number (pos 98))) (assign f.program (place_of (Number (pos 98) (place 8 9))) (Some x) s)
+  given : (n : ℕ) → run f n s (Set (target_to (x_at 8 4)) (Number (pos 98) (place 8 9))) ≡ use_value (Gives (value.Number (pos 98))) (assign f.program (place_of (Number (pos 98) (place 8 9))) (Some x) s)
   given n = ap (λ a. use_value a (assign f.program (place_of (Number (pos 98) (place 8 9))) (Some x) s)) (eval-Number f n s (pos 98) (place 8 9))
 
 -- around a run from 98
@@ -62,7 +62,7 @@ no_turn = no_turn_left (around increment_without_pre inc_without_pre (x_is (pos 
 pub again : runs_from 2 (pos 98) counting_again ≡ Ended (x_is (pos 100))
 again =
     let last : Store → Outcome = λ u. then_do (run from_98 2 u counting) Ended in
-    ap (λ o. then_do o (λ t. then_do (run from_98 2 t (Set (target_at (x_named 8 4)) (Number (pos 98) (place 8 9)))) last)) ended
+    ap (λ o. then_do o (λ t. then_do (run from_98 2 t (Set (target_to (x_at 8 4)) (Number (pos 98) (place 8 9)))) last)) ended
     ∙ ap (λ o. then_do o last) (given from_98 (x_is (pos 100)) 2)
     ∙ ap (λ o. then_do o Ended) ended
 

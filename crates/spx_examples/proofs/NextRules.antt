@@ -13,7 +13,8 @@ use Rattle.spx_core.specs.declared.statement.Around.TheVariants.{Other}
 use Rattle.spx_core.specs.Obeyed.{Obeys, obeyed_command}
 use Rattle.spx_core.proofs.Callers.Expressions.{fold-Number, fold-Infix}
 use Rattle.spx_meaning.specs.Literals.{literal, literal_in}
-use Rattle.spx_examples.specs.Increment.{place, x_at, x_named, successor}
+use Rattle.spx_examples.specs.Increment.{place, x_at, successor}
+use Rattle.spx_examples.specs.Names.{target_to}
 use Rattle.spx_examples.specs.Next.{closing, below_hundred, step, branch, next_program}
 use Rattle.spx_examples.proofs.Statements.{assignment_is, if_is, operating, and_no_more}
 use Rattle.spx_examples.proofs.Successor.{judged_x, step_command, step_typed}
@@ -25,7 +26,7 @@ branch_command = Choose (place 5 4) below_hundred (Then (step_command 6 7 12) Sk
 pub next_command : commands (branch ∷ []) ≡ Then branch_command Skip
 next_command =
     if_is (place 5 4) below_hundred (step ∷ []) closing
-    ∙ ap (λ body. Then (Choose (place 5 4) below_hundred body Skip) Skip) (assignment_is (x_named 6 7) (successor 6 12))
+    ∙ ap (λ body. Then (Choose (place 5 4) below_hundred body Skip) Skip) (assignment_is (target_to (x_at 6 7)) (successor 6 12))
 
 pub judged_below : judged below_hundred ≡ Ok (typing (Of BOOLEAN.base) None (place 5 9))
 judged_below =

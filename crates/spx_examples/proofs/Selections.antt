@@ -5,16 +5,13 @@ use Rattle.std.specs.Prelude.{⊤, is_ok}
 use denote.Hole.Carrier.{roll}
 use Rattle.spx_text.specs.declared.place.Place.{Place}
 use Rattle.spx_tree.specs.declared.declaration.Decl.{Decl}
-use Rattle.spx_tree.specs.declared.expression.Expr.{Expr, Expr-F, roll-Expr, fold-roll-Expr}
-use Rattle.spx_tree.specs.declared.expression.Expr.TheVariants as written_expr
+use Rattle.spx_tree.specs.declared.expression.Expr.{Expr}
 use Rattle.spx_tree.specs.declared.expression.Identifier.{Identifier}
-use Rattle.spx_tree.specs.declared.expression.Name.TheVariants.{Simple, Attribute}
 use Rattle.spx_tree.specs.declared.statement.Alternative.{Alternative, fold-roll-Alternative}
 use Rattle.spx_tree.specs.declared.statement.Choice.{Choice}
 use Rattle.spx_tree.specs.declared.statement.Closing.{Closing}
 use Rattle.spx_tree.specs.declared.statement.Stmt.{Stmt, Stmt-F, roll-Stmt, fold-roll-Stmt}
 use Rattle.spx_tree.specs.declared.statement.Stmt.TheVariants as written_stmt
-use Rattle.spx_tree.specs.Written.{applied, parenthesized, signed, operation, in_type, in_range}
 use Rattle.spx_core.specs.declared.dependency.CoreDerivesItem.{CoreDerivesItem}
 use Rattle.spx_core.specs.declared.entity.Entity.TheVariants as entity
 use Rattle.spx_core.specs.declared.entity.TheConstants.{INTEGER}
@@ -25,6 +22,7 @@ use Rattle.spx_core.specs.declared.function.CoreFunction.{CoreFunction}
 use Rattle.spx_core.specs.declared.function.Span.{Span}
 use Rattle.spx_core.specs.declared.name.CoreName.{CoreName}
 use Rattle.spx_core.specs.declared.name.Defining.{Defining}
+use Rattle.spx_core.specs.declared.program.TypeRow.{TypeRow}
 use Rattle.spx_core.specs.declared.rule.ExprType.{ExprType}
 use Rattle.spx_core.specs.declared.rule.ExprType.TheVariants.{Of, Universal}
 use Rattle.spx_core.specs.declared.rule.RuleName.TheVariants.{N10, N12, N17}
@@ -41,7 +39,7 @@ use Rattle.spx_core.specs.Extents.{extent, extent-Name, extent_in, extent_named,
 use Rattle.spx_core.specs.Judged.{Judged, ◌>>=◌, application, each, expr_step, if_there, judged, keeps, mapped, named_value}
 use Rattle.spx_core.specs.Places.{place_in, place_of}
 use Rattle.spx_core.specs.Regions.{Region, Regions}
-use Rattle.spx_core.specs.Resolved.{Part, around_body, choice_of, or_zero, resolved_alternative, resolved_choice, resolved_condition, resolved_expr, resolved_name, resolved_static, resolved_stmt, value_in}
+use Rattle.spx_core.specs.Resolved.{Part, Scene, around_body, in_code, or_zero, resolved_alternative, resolved_choice, resolved_condition, resolved_expr, resolved_name, resolved_static, resolved_stmt, value_in}
 use Rattle.spx_core.specs.Resolved as resolving
 use Rattle.spx_core.specs.Shapes as shape
 use Rattle.spx_core.specs.Statements.{are_given_once, first_name_breach, judged_command, static_at}
@@ -56,14 +54,16 @@ use Rattle.spx_meaning.specs.Literals.{literal_in}
 use Rattle.spx_meaning.specs.Runs.{Ended, Outcome, assign, has_value, run, then_do, use_value}
 use Rattle.spx_meaning.specs.Stores.{Store}
 use Rattle.spx_examples.specs.Declarations.{color, standing_for, stating}
-use Rattle.spx_examples.specs.Flag.{named}
 use Rattle.spx_examples.specs.Increment.{place}
 use Rattle.spx_examples.specs.NameRules.{alone}
+use Rattle.spx_examples.specs.Names.{path_of, without_parts}
 use Rattle.spx_examples.specs.Operators.{a, a_at, number}
 use Rattle.spx_examples.specs.Selections.{Chosen, color_program, giving, holding, literal_at}
-use Rattle.spx_examples.proofs.Declarations.{breach_where, breach_with, first as procedure, inside, now, seen_there}
+use Rattle.spx_examples.proofs.Declarations.{breach_where, breach_with, first as procedure, inside, now, seen_there, types_there}
+use Rattle.spx_examples.proofs.Contexts.{met_is, met_now}
 use Rattle.spx_examples.proofs.Evaluations.{assigns, eval_name}
 use Rattle.spx_examples.proofs.NameBreaches.{body_of, first_position}
+use Rattle.spx_examples.proofs.Names.{alone_as}
 use Rattle.spx_examples.proofs.Resolving.{as_body, here}
 use Rattle.spx_examples.proofs.Statements.{and_no_more, null_is}
 
@@ -88,6 +88,8 @@ judgement_is (shape.in_type_of op place b name) = refl
 judgement_is (shape.in_range_of op place b low high) = refl
 judgement_is (shape.element_of b place i x) = refl
 judgement_is (shape.selected_of b field x) = refl
+judgement_is (shape.array_attribute_of b designator x) = refl
+judgement_is (expr.Faulty faulty) = refl
 
 -- the values that a name may have
 abbrev extent_now : CoreName → Span
@@ -98,25 +100,9 @@ extent_is name =
     extent-Name name
     ∙ ap₂ (λ j out. with_static (value_in j) (extent_in (type_judged j) out)) (fold-Name expr_step name) (outs-Name name)
 
-module _ (around : Regions) where
-  abbrev resolved_now : ExprType → Expr → CoreExpr
-  resolved_now of (written_expr.Name (Simple name)) = expr.Name (resolved_name around name)
-  resolved_now of e = resolved_expr of around e
-
-  resolution_is : (of : ExprType) (e : Expr) → resolved_expr of around e ≡ resolved_now of e
-  unfolding roll-Expr roll
-  resolution_is of (written_expr.Name (Simple name)) =
-      ap (in_context of) (fold-roll-Expr CoreExpr (resolving.expr_step [] around) (Expr-F.Name (Simple name)))
-      ∙ unchanged of (expr.Name (resolved_name around name)) (fold-Name power_step (resolved_name around name))
-  resolution_is of (written_expr.Name (Attribute prefix designator)) = refl
-  resolution_is of (written_expr.Number n place) = refl
-  resolution_is of (written_expr.Entry name) = refl
-  resolution_is of (applied function place b) = refl
-  resolution_is of (parenthesized place b) = refl
-  resolution_is of (signed op place b) = refl
-  resolution_is of (operation op place b c) = refl
-  resolution_is of (in_type op place b name) = refl
-  resolution_is of (in_range op place b low high) = refl
+-- a name alone, where it meets a type
+alone_is : (scene : Scene) (around : Regions) (of : ExprType) (name : Identifier) → resolved_expr scene of around (without_parts (path_of name [])) ≡ expr.Name (resolved_name around name)
+alone_is scene around of name = ap (in_context of) (alone_as scene around name) ∙ unchanged of (expr.Name (resolved_name around name)) (fold-Name power_step (resolved_name around name))
 
 -- ---- a `case` of two alternatives that do nothing
 
@@ -176,82 +162,87 @@ abbrev written : Option (List Choice) → Place → Alternative
 written choices at = record { choices = choices; body = written_stmt.Null at ∷ [] }
 
 abbrev case_written : Place → Identifier → (first second : Option (List Choice)) → (p q : Place) → Closing → Stmt
-case_written at selector first second p q closing = written_stmt.Case at (written_expr.Name (Simple selector)) (written first p ∷ written second q ∷ []) closing
+case_written at selector first second p q closing = written_stmt.Case at (without_parts (path_of selector [])) (written first p ∷ written second q ∷ []) closing
 
 span_is : (low : CoreExpr) (high : Option CoreExpr) → resolving.chosen_by low high ≡ span_by judged low high
 span_is low None = refl
 span_is low (Some high) = refl
 
-module _ (around : Regions) where
+module _ (scene : Scene) (around : Regions) where
+  -- what a choice is resolved to
+  abbrev chosen_now : Expr → CoreExpr
+  chosen_now = met_now scene around Universal
+
   abbrev choices_now : Option (List Choice) → Option (List CoreChoice)
-  choices_now choices = option_map (map (choice_by judged_now (resolved_now around Universal))) choices
+  choices_now choices = option_map (map (choice_by judged_now chosen_now)) choices
 
   -- what the `case` is judged to be
   abbrev case_now : Place → Identifier → (first second : Option (List Choice)) → Judged ⊤
   case_now at selector first second =
       case_by judged_now at (expr.Name (resolved_name around selector)) (extent_now (resolved_name around selector)) (choices_now first) (choices_now second)
 
-  choice_is : (c : Choice) → resolved_choice around c ≡ choice_by judged_now (resolved_now around Universal) c
+  choice_is : (c : Choice) → resolved_choice scene around c ≡ choice_by judged_now chosen_now c
   choice_is c =
-      ap (λ (s : Span). record { low = resolved_static around c.low; high = option_map (resolved_static around) c.high; span = s }) (span_is (resolved_static around c.low) (option_map (resolved_static around) c.high))
-      ∙ ap₂ (λ j r. choice_by j r c) (fun_ext judgement_is) (fun_ext (resolution_is around Universal))
+      ap (λ (s : Span). record { low = resolved_static scene around c.low; high = option_map (resolved_static scene around) c.high; span = s }) (span_is (resolved_static scene around c.low) (option_map (resolved_static scene around) c.high))
+      ∙ ap₂ (λ j r. choice_by j r c) (fun_ext judgement_is) (fun_ext (met_is scene around Universal))
 
-module _ (items : List CoreDerivesItem) (outer : Regions) (region : Region) (position : ℕ) where
+module _ (types : List TypeRow) (items : List CoreDerivesItem) (outer : Regions) (region : Region) (position : ℕ) where
   abbrev around_case : Regions
   around_case = region ∷ outer
 
-  resolved_null : (at : Place) → resolved_stmt items outer (written_stmt.Null at) region position ≡ (stmt.Null at, position)
+  resolved_null : (at : Place) → resolved_stmt types items outer (written_stmt.Null at) region position ≡ (stmt.Null at, position)
   unfolding roll-Stmt roll
   resolved_null at =
-      ap (here items outer region position)
-      (fold-roll-Stmt (Part CoreStmt) (Part CoreAlternative) (Part CoreArm) (resolving.stmt_step items outer) (resolving.alternative_step outer) (resolving.arm_step outer) (Stmt-F.Null at))
+      ap (here types items outer region position)
+      (fold-roll-Stmt (Part CoreStmt) (Part CoreAlternative) (Part CoreArm) (resolving.stmt_step types items outer) (resolving.alternative_step types outer) (resolving.arm_step types outer) (Stmt-F.Null at))
 
   abbrev core : Option (List Choice) → Place → CoreAlternative
-  core choices at = record { choices = option_map (map (resolved_choice around_case)) choices; body = stmt.Null at ∷ [] }
+  core choices at = record { choices = option_map (map (resolved_choice (in_code types) around_case)) choices; body = stmt.Null at ∷ [] }
 
-  alternative_is : (choices : Option (List Choice)) (at : Place) → resolved_alternative items outer (written choices at) region position ≡ (core choices at, position)
+  alternative_is : (choices : Option (List Choice)) (at : Place) → resolved_alternative types items outer (written choices at) region position ≡ (core choices at, position)
   alternative_is choices at =
-      ap (here items outer region position)
-      (fold-roll-Alternative (Part CoreStmt) (Part CoreAlternative) (Part CoreArm) (resolving.stmt_step items outer) (resolving.alternative_step outer) (resolving.arm_step outer) (record { choices = choices; body = written_stmt.Null at ∷ [] }))
-      ∙ ap (λ (made : CoreStmt × ℕ). (record { choices = option_map (map (resolved_choice around_case)) choices; body = as_body made }, made.1)) (resolved_null at)
+      ap (here types items outer region position)
+      (fold-roll-Alternative (Part CoreStmt) (Part CoreAlternative) (Part CoreArm) (resolving.stmt_step types items outer) (resolving.alternative_step types outer) (resolving.arm_step types outer) (record { choices = choices; body = written_stmt.Null at ∷ [] }))
+      ∙ ap (λ (made : CoreStmt × ℕ). (record { choices = option_map (map (resolved_choice (in_code types) around_case)) choices; body = as_body made }, made.1)) (resolved_null at)
 
   -- the whole, where its alternatives are these
   abbrev case_with : Place → Identifier → Closing → CoreAlternative × ℕ → CoreAlternative × ℕ → CoreStmt × ℕ
-  case_with at selector closing b c = (stmt.Case at (resolved_condition [] around_case (written_expr.Name (Simple selector))) (b.0 ∷ c.0 ∷ []) closing, c.1)
+  case_with at selector closing b c = (stmt.Case at (resolved_condition (in_code types) around_case (without_parts (path_of selector []))) (b.0 ∷ c.0 ∷ []) closing, c.1)
 
   resolved_case : (at : Place) (selector : Identifier) (first second : Option (List Choice)) (p q : Place) (closing : Closing)
-      → resolved_stmt items outer (case_written at selector first second p q closing) region position
-      ≡ (stmt.Case at (resolved_condition [] around_case (written_expr.Name (Simple selector))) (core first p ∷ core second q ∷ []) closing, position)
+      → resolved_stmt types items outer (case_written at selector first second p q closing) region position
+      ≡ (stmt.Case at (resolved_condition (in_code types) around_case (without_parts (path_of selector []))) (core first p ∷ core second q ∷ []) closing, position)
   unfolding roll-Stmt roll
   resolved_case at selector first second p q closing =
-      ap (here items outer region position)
-      (fold-roll-Stmt (Part CoreStmt) (Part CoreAlternative) (Part CoreArm) (resolving.stmt_step items outer) (resolving.alternative_step outer) (resolving.arm_step outer) (Stmt-F.Case at (written_expr.Name (Simple selector)) (written first p ∷ written second q ∷ []) closing))
-      ∙ ap (λ (b : CoreAlternative × ℕ). case_with at selector closing b (resolved_alternative items outer (written second q) region b.1)) (alternative_is first p)
+      ap (here types items outer region position)
+      (fold-roll-Stmt (Part CoreStmt) (Part CoreAlternative) (Part CoreArm) (resolving.stmt_step types items outer) (resolving.alternative_step types outer) (resolving.arm_step types outer) (Stmt-F.Case at (without_parts (path_of selector [])) (written first p ∷ written second q ∷ []) closing))
+      ∙ ap (λ (b : CoreAlternative × ℕ). case_with at selector closing b (resolved_alternative types items outer (written second q) region b.1)) (alternative_is first p)
       ∙ ap (case_with at selector closing (core first p, position)) (alternative_is second q)
 
   case_body : (at : Place) (selector : Identifier) (first second : Option (List Choice)) (p q : Place) (closing : Closing)
-      → judged_command (body_of items outer region position (case_written at selector first second p q closing ∷ [])) ≡ and_no_more (case_now around_case at selector first second)
+      → judged_command (body_of types items outer region position (case_written at selector first second p q closing ∷ [])) ≡ and_no_more (case_now (in_code types) around_case at selector first second)
   case_body at selector first second p q closing =
       let around : Regions = around_case in
-      let e : CoreExpr = resolved_condition [] around (written_expr.Name (Simple selector)) in
+      let e : CoreExpr = resolved_condition (in_code types) around (without_parts (path_of selector [])) in
       let name : CoreName = resolved_name around selector in
       ap (λ made. judged_command (commands (as_body made))) (resolved_case at selector first second p q closing)
-      ∙ ap judged_command (command_is at e (option_map (map (resolved_choice around)) first) (option_map (map (resolved_choice around)) second) (stmt.Null p ∷ []) (stmt.Null q ∷ []) closing)
-      ∙ ap₂ (λ (b c : Command). judged_command (Then (Select at e (When (option_map (map (resolved_choice around)) first) b (Last (option_map (map (resolved_choice around)) second) c))) Skip)) (null_is p) (null_is q)
-      ∙ ap (λ (f : Choice → CoreChoice). and_no_more (case_by judged at e (extent e) (option_map (map f) first) (option_map (map f) second))) (fun_ext (choice_is around))
-      ∙ ap (λ (d : CoreExpr). and_no_more (case_by judged at d (extent d) (choices_now around first) (choices_now around second))) (resolution_is around (Of INTEGER.base) (written_expr.Name (Simple selector)))
-      ∙ ap₂ (λ (j : CoreExpr → Judged Typing) (values : Span). and_no_more (case_by j at (expr.Name name) values (choices_now around first) (choices_now around second))) (fun_ext judgement_is) (extent_is name)
+      ∙ ap judged_command (command_is at e (option_map (map (resolved_choice (in_code types) around)) first) (option_map (map (resolved_choice (in_code types) around)) second) (stmt.Null p ∷ []) (stmt.Null q ∷ []) closing)
+      ∙ ap₂ (λ (b c : Command). judged_command (Then (Select at e (When (option_map (map (resolved_choice (in_code types) around)) first) b (Last (option_map (map (resolved_choice (in_code types) around)) second) c))) Skip)) (null_is p) (null_is q)
+      ∙ ap (λ (f : Choice → CoreChoice). and_no_more (case_by judged at e (extent e) (option_map (map f) first) (option_map (map f) second))) (fun_ext (choice_is (in_code types) around))
+      ∙ ap (λ (d : CoreExpr). and_no_more (case_by judged at d (extent d) (choices_now (in_code types) around first) (choices_now (in_code types) around second))) (alone_is (in_code types) around (Of INTEGER.base) selector)
+      ∙ ap₂ (λ (j : CoreExpr → Judged Typing) (values : Span). and_no_more (case_by j at (expr.Name name) values (choices_now (in_code types) around first) (choices_now (in_code types) around second))) (fun_ext judgement_is) (extent_is name)
 
 pub case_breach : (ds : List Decl) (at : Place) (selector : Identifier) (first second : Option (List Choice)) (p q : Place) (closing : Closing)
     → first_name_breach (alone (stating ds (case_written at selector first second p q closing)))
     ≡ breach_with ds (case_written at selector first second p q closing) (now ds (case_written at selector first second p q closing)).judgement
-    (and_no_more (case_now (inside ds (case_written at selector first second p q closing) (now ds (case_written at selector first second p q closing)).names) at selector first second))
+    (and_no_more (case_now (in_code (types_there ds (case_written at selector first second p q closing) (now ds (case_written at selector first second p q closing)).rows)) (inside ds (case_written at selector first second p q closing) (now ds (case_written at selector first second p q closing)).names) at selector first second))
 case_breach ds at selector first second p q closing =
     let statement : Stmt = case_written at selector first second p q closing in
     let names : List Defining = (now ds statement).names in
+    let types : List TypeRow = types_there ds statement (now ds statement).rows in
     breach_where ds statement
-    (and_no_more (case_now (inside ds statement names) at selector first second))
-    (case_body (relation (procedure ds statement)) (around_body (procedure ds statement).name) (seen_there ds statement names) (first_position (procedure ds statement)) at selector first second p q closing)
+    (and_no_more (case_now (in_code types) (inside ds statement names) at selector first second))
+    (case_body types (relation (procedure ds statement)) (around_body (procedure ds statement).name) (seen_there ds statement names) (first_position (procedure ds statement)) at selector first second p q closing)
 
 -- ---- runs
 
@@ -261,7 +252,7 @@ gives n s = then_do (assign color_program (place 1 12) (Some a) s (number n)) En
 
 giving_runs : (f : Frame) (is : f.program ≡ color_program) (bound : ℕ) (s : Store) (n : ℤ) → run f bound s (commands (giving n)) ≡ gives n s
 giving_runs f is bound s n =
-    assigns f bound s (named (a_at color 1)) (literal_at n) (Gives (number n)) (eval_name f bound s (standing_for (entity.Literal color n)))
+    assigns f bound s (a_at color 1) (literal_at n) (Gives (number n)) (eval_name f bound s (standing_for (entity.Literal color n)))
     ∙ ap₂ (λ p at. then_do (assign p at (Some a) s (number n)) Ended) is (fold-Name place_in (standing_for (entity.Literal color n)))
 
 pub chosen_ends : (first second : Option (List CoreChoice)) (n : ℤ) → Chosen first second n (then_do (if has_value first (number n) then gives (pos 2) (holding n) else gives (pos 1) (holding n)) Ended)

@@ -6,7 +6,7 @@ use Rattle.spx_text.specs.declared.place.Place.{Place}
 use Rattle.spx_tree.specs.declared.statement.AssertionKind.{AssertionKind}
 use Rattle.spx_tree.specs.declared.statement.Closing.{Closing}
 use Rattle.spx_tree.specs.declared.expression.InfixOp.{InfixOp}
-use Rattle.spx_core.specs.declared.name.Reference.{Reference}
+use Rattle.spx_core.specs.declared.part.Target.{Target}
 use Rattle.spx_core.specs.declared.expression.CoreExpr.{CoreExpr}
 use Rattle.spx_core.specs.declared.statement.CoreStmt.{CoreStmt, CoreStmt-F, roll-CoreStmt, fold-roll-CoreStmt}
 use Rattle.spx_core.specs.declared.statement.CoreStmt.TheVariants as stmt
@@ -18,7 +18,6 @@ use Rattle.spx_core.specs.declared.subprogram.Sub.{Sub}
 use Rattle.spx_core.specs.Judged.{Judged, ◌>>=◌, operation}
 use Rattle.spx_core.specs.Commands.{Command, Skip, Set, Then, Choose, Assertion, Repeat, Tested, alternative_step, arm_step, stmt_step, commands}
 use Rattle.spx_core.proofs.Callers.CommandForms.{command-Assertion, command-Assignment, command-Null, command-While}
-use Rattle.spx_core.specs.Resolved.{target_at}
 use Rattle.spx_meaning.specs.declared.bad.BadKind.TheVariants.{Unset}
 use Rattle.spx_meaning.specs.Runs.{Outcome, Ended, then_do, demand, exports_set}
 use Rattle.spx_examples.specs.Branches.{arm}
@@ -29,8 +28,8 @@ null_is at = ap (λ c. Then c Skip) (command-Null at)
 pub assertion_is : (kind : AssertionKind) (at : Place) (condition : CoreExpr) → commands (stmt.Assertion kind at condition ∷ []) ≡ Then (Assertion kind at condition) Skip
 assertion_is kind at condition = ap (λ c. Then c Skip) (command-Assertion kind at condition)
 
-pub assignment_is : (target : Reference) (value : CoreExpr) → commands (stmt.Assignment (target_at target) value ∷ []) ≡ Then (Set (target_at target) value) Skip
-assignment_is target value = ap (λ c. Then c Skip) (command-Assignment (target_at target) value)
+pub assignment_is : (target : Target) (value : CoreExpr) → commands (stmt.Assignment target value ∷ []) ≡ Then (Set target value) Skip
+assignment_is target value = ap (λ c. Then c Skip) (command-Assignment target value)
 
 pub while_is : (at : Place) (condition : CoreExpr) (loop_word : Place) (body : List CoreStmt) (closing : Closing)
     → commands (stmt.Loop (scheme.While at condition) loop_word body closing ∷ []) ≡ Then (Repeat (Tested at condition) (commands body)) Skip

@@ -15,7 +15,6 @@ use Rattle.spx_core.specs.Reads.{names_read, names_step}
 use Rattle.spx_core.specs.Effects.{assign, effect, read_of}
 use Rattle.spx_core.specs.Places.{place_in, place_of}
 use Rattle.spx_core.proofs.Callers.Expressions.{fold-Name, fold-Number, fold-Infix}
-use Rattle.spx_core.specs.Resolved.{target_at}
 use Rattle.spx_term.specs.declared.value.Value.TheVariants as value
 use Rattle.spx_meaning.specs.Literals.{literal, literal_in}
 use Rattle.spx_meaning.specs.Stores.{Store}
@@ -23,9 +22,10 @@ use Rattle.spx_meaning.specs.Frames.{Frame}
 use Rattle.spx_meaning.specs.Evaluation.{Answer, with_value, applied, in_base, read, eval, eval-Number}
 use Rattle.spx_meaning.specs.Runs.{Outcome, use_value, run}
 use Rattle.spx_meaning.specs.Runs as runs
-use Rattle.spx_examples.specs.Increment.{place, x_at, successor, x_named, x}
+use Rattle.spx_examples.specs.Increment.{place, x_at, successor, x}
 use Rattle.spx_examples.proofs.Evaluations.{eval_name, eval_operated}
 use Rattle.spx_examples.proofs.Statements.{operating}
+use Rattle.spx_examples.specs.Names.{target_to}
 
 pub judged_x : (line column : ℕ) → judged (Name (x_at line column)) ≡ Ok (typing (Of INTEGER.base) None (place line column))
 judged_x line column = fold-Name expr_step (x_at line column)
@@ -42,7 +42,7 @@ successor_is_not line column = ap literal_in (judged_successor line column)
 
 -- `X := X + 1`
 abbrev pub step_command : (line target value : ℕ) → Command
-step_command line target value = Set (target_at (x_named line target)) (successor line value)
+step_command line target value = Set (target_to (x_at line target)) (successor line value)
 
 pub step_typed : (line target value : ℕ) → judged_command (step_command line target value) ≡ Ok tt
 step_typed line target value = ap (λ right. right >>= λ v. operand_of INTEGER v) (judged_successor line value)

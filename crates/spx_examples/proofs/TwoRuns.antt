@@ -14,7 +14,7 @@ use Rattle.spx_meaning.specs.Laws.{Start, Agree, AreDerived, OthersAreKept, TwoR
 use Rattle.spx_meaning.specs.Runs.{Ended, call}
 use Rattle.spx_meaning.specs.Stores.{Store, look, type_of, is_in, types_of}
 use Rattle.spx_examples.specs.Increment.{x}
-use Rattle.spx_examples.specs.Flag.{y, y_at, named}
+use Rattle.spx_examples.specs.Flag.{y, y_at}
 use Rattle.spx_examples.specs.Copy.{z_at, copy, copy_program}
 use Rattle.spx_examples.specs.Variants.{number, inc_without_derives, increment_without_derives}
 use Rattle.spx_examples.proofs.IncrementRuns.{body_runs}
@@ -33,8 +33,8 @@ from v n = number (pos 7) ∷ v ∷ number n ∷ []
 abbrev frame : ℤ → Frame
 frame n = around copy_program copy (from None n)
 
-copies : (n : ℕ) (v : Option Value) (m : ℤ) → call copy_program n copy (from v m) ≡ to_end copy (taking (frame m) (from None m) (named (y_at 5 4)) (Name (z_at 5 9)) (Gives (value.Number m)))
-copies n v m = ap (to_end copy) (assigns (frame m) n (from None m) (named (y_at 5 4)) (Name (z_at 5 9)) (Gives (value.Number m)) (eval_name (frame m) n (from None m) (z_at 5 9)))
+copies : (n : ℕ) (v : Option Value) (m : ℤ) → call copy_program n copy (from v m) ≡ to_end copy (taking (frame m) (from None m) (y_at 5 4) (Name (z_at 5 9)) (Gives (value.Number m)))
+copies n v m = ap (to_end copy) (assigns (frame m) n (from None m) (y_at 5 4) (Name (z_at 5 9)) (Gives (value.Number m)) (eval_name (frame m) n (from None m) (z_at 5 9)))
 
 pub copies_1 : (n : ℕ) (v : Option Value) → call copy_program n copy (from v (pos 1)) ≡ Ended (from (number (pos 1)) (pos 1))
 copies_1 n v = copies n v (pos 1)

@@ -16,10 +16,10 @@ use Rattle.spx_core.specs.declared.statement.Around.TheVariants.{Other}
 use Rattle.spx_core.specs.Obeyed.{first_rule_breach, obeyed_command, obeyed_item, obeyed_post, obeyed_pre, obeyed_relation, obeyed_sub, reads_formal, reads_import}
 use Rattle.spx_core.specs.Reads.{names_read, names_step}
 use Rattle.spx_core.proofs.Callers.Expressions.{fold-Name, fold-Number, fold-Infix}
-use Rattle.spx_core.specs.Resolved.{target_at}
 use Rattle.spx_examples.specs.Assertions.{positive_name, post_on}
 use Rattle.spx_examples.specs.Increment.{place}
-use Rattle.spx_examples.specs.Flag.{x_at, y_at, named, positive, one, closing, flag}
+use Rattle.spx_examples.specs.Flag.{x_at, y_at, positive, one, closing, flag}
+use Rattle.spx_examples.specs.Names.{target_to}
 use Rattle.spx_examples.specs.Operators.{true_at}
 use Rattle.spx_examples.specs.VariableRules.{only, pre_on, requiring_true, setting_x, branch_of}
 use Rattle.spx_examples.proofs.Flag.{flag_command}
@@ -34,10 +34,10 @@ names_are : (name : CoreName) → names_read (pre_on name).condition ≡ name �
 names_are name = positive_reads (place 3 11) (place 3 13) name
 
 -- `X := 1` in an arm
-pub branch_is : (condition : CoreExpr) → commands (branch_of condition ∷ []) ≡ Then (Choose (place 5 4) condition (Then (Set (target_at (named (x_at 6 7))) one) Skip) Skip) Skip
+pub branch_is : (condition : CoreExpr) → commands (branch_of condition ∷ []) ≡ Then (Choose (place 5 4) condition (Then (Set (target_to (x_at 6 7)) one) Skip) Skip) Skip
 branch_is condition =
     if_is (place 5 4) condition (setting_x ∷ []) closing
-    ∙ ap (λ body. Then (Choose (place 5 4) condition body Skip) Skip) (assignment_is (named (x_at 6 7)) one)
+    ∙ ap (λ body. Then (Choose (place 5 4) condition body Skip) Skip) (assignment_is (target_to (x_at 6 7)) one)
 
 -- a procedure whose precondition and postcondition obey as these do, and whose body is this
 abbrev sub_with : Sub → (pre post : Judged ⊤) → Command → Judged ⊤
@@ -75,7 +75,7 @@ breach_reading p sub others name body subs_are pre_is body_is =
 pub true_obeys : first_rule_breach (only (requiring_true flag)) ≡ None
 true_obeys =
     let sub : Sub = requiring_true flag in
-    let body : Command = Then (Choose (place 5 4) positive (Then (Set (target_at (named (y_at 6 7))) one) Skip) Skip) Skip in
+    let body : Command = Then (Choose (place 5 4) positive (Then (Set (target_to (y_at 6 7)) one) Skip) Skip) Skip in
     breach_is (only sub) sub [] body refl flag_command
     ∙ ap (λ names. breach_with sub [] (each (reads_import sub) names) (post_of sub) body) (fold-Name names_step (true_at 3 9))
 

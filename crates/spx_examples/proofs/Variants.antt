@@ -20,7 +20,8 @@ use Rattle.spx_meaning.specs.Annotations.{meant, meant_step}
 use Rattle.spx_meaning.specs.Evaluation.{Answer, Fails, applied, signed}
 use Rattle.spx_meaning.specs.Runs.{Ended, Bad, then_do, use_value, assign, demand, run, call}
 use Rattle.spx_examples.specs.Increment.{place, x}
-use Rattle.spx_examples.specs.Flag.{x_at, named}
+use Rattle.spx_examples.specs.Flag.{x_at}
+use Rattle.spx_examples.specs.Names.{target_to}
 use Rattle.spx_examples.specs.Variants.{number, only_null, out_x_at, out_sub, out_program, itself, natural_x_at, natural_negated, natural_sub, natural_program, wanted, flag_with_pre, flag_with_pre_program}
 use Rattle.spx_examples.proofs.Evaluations.{assigns, eval_name, eval_signed, numeric}
 use Rattle.spx_examples.proofs.Statements.{assignment_is, null_is, and_no_more, to_end}
@@ -31,7 +32,7 @@ use Rattle.spx_examples.proofs.Successor.{x_is}
 pub out_is_unset : (n : ℕ) (v : Option Value) → call (out_program itself) n (out_sub itself) (v ∷ []) ≡ Bad Unset (place 6 9)
 out_is_unset n v =
     let f : Frame = around (out_program itself) (out_sub itself) (None ∷ []) in
-    ap (to_end (out_sub itself)) (assigns f n (None ∷ []) (named (out_x_at 6 4)) (Name (out_x_at 6 9)) (Fails Unset (place 6 9)) (eval_name f n (None ∷ []) (out_x_at 6 9)))
+    ap (to_end (out_sub itself)) (assigns f n (None ∷ []) (out_x_at 6 4) (Name (out_x_at 6 9)) (Fails Unset (place 6 9)) (eval_name f n (None ∷ []) (out_x_at 6 9)))
 
 -- nor at the end, where the body gives it none
 pub out_is_left_unset : (n : ℕ) (v : Option Value) → call (out_program only_null) n (out_sub only_null) (v ∷ []) ≡ Bad Unset (place 7 1)
@@ -44,7 +45,7 @@ judged_negated = fold-Prefix expr_step Minus (place 6 9) (Name (natural_x_at 6 1
 
 pub natural_typed : Typed natural_program
 natural_typed =
-    ap (λ body. and_no_more (and_no_more (judged_command body))) (assignment_is (named (natural_x_at 6 4)) natural_negated)
+    ap (λ body. and_no_more (and_no_more (judged_command body))) (assignment_is (target_to (natural_x_at 6 4)) natural_negated)
     ∙ ap (λ right. and_no_more (and_no_more (and_no_more (right >>= λ v. operand_of NATURAL v)))) judged_negated
 
 -- around the call from this value of X
@@ -58,7 +59,7 @@ gives_negated n m =
     let f : Frame = from_value m in
     let answer : Answer = signed Minus INTEGER.base (place 6 9) (value.Number m) in
     ap (to_end natural_sub)
-    (assigns f n (x_is m) (named (natural_x_at 6 4)) natural_negated answer (eval_signed f n (x_is m) Minus (place 6 9) (Name (natural_x_at 6 11)) _ _ judged_negated (eval_name f n (x_is m) (natural_x_at 6 11)))
+    (assigns f n (x_is m) (natural_x_at 6 4) natural_negated answer (eval_signed f n (x_is m) Minus (place 6 9) (Name (natural_x_at 6 11)) _ _ judged_negated (eval_name f n (x_is m) (natural_x_at 6 11)))
     ∙ ap (λ at. then_do (use_value answer (assign natural_program at (Some x) (x_is m))) Ended) (fold-Prefix place_in Minus (place 6 9) (Name (natural_x_at 6 11))))
 
 pub stays_natural : (n : ℕ) → call natural_program n natural_sub (number (pos 0) ∷ []) ≡ Ended (number (pos 0) ∷ [])

@@ -16,7 +16,7 @@ use Rattle.spx_core.specs.declared.entity.VarId.{VarId}
 use Rattle.spx_core.specs.declared.expression.CoreExpr.{CoreExpr}
 use Rattle.spx_core.specs.declared.expression.CoreExpr.TheVariants.{Name, Number, Infix}
 use Rattle.spx_core.specs.declared.function.CoreFunction.{CoreFunction}
-use Rattle.spx_tree.specs.declared.expression.FunctionForm.TheVariants as form
+use Rattle.spx_core.specs.declared.function.FunctionForm.TheVariants as form
 use Rattle.spx_core.specs.declared.name.CoreName.{CoreName}
 use Rattle.spx_core.specs.declared.program.Program.{Program}
 use Rattle.spx_core.specs.declared.rule.ExprType.TheVariants.{Of}
@@ -34,7 +34,6 @@ use Rattle.spx_core.specs.Judged.{application, expr_step, judged, typing}
 use Rattle.spx_core.specs.Places.{place_of}
 use Rattle.spx_core.proofs.Callers.CommandForms.{command-Assertion, command-Assignment}
 use Rattle.spx_core.proofs.Callers.Expressions.{fold-Name, fold-Number, fold-Applied, fold-Prefix, fold-Infix, fold-InType, fold-InRange}
-use Rattle.spx_core.specs.Resolved.{target_at}
 use Rattle.spx_term.specs.declared.term.Sort.TheVariants.{Integer}
 use Rattle.spx_term.specs.declared.term.Symbol.TheVariants as symbol
 use Rattle.spx_term.specs.declared.term.Term.{Term}
@@ -44,6 +43,7 @@ use Rattle.spx_term.specs.declared.value.Value.{Value}
 use Rattle.spx_term.specs.declared.value.Value.TheVariants as value
 use Rattle.spx_term.specs.Meaning.{as_number, as_truth, same_value, value_of, value_of_op, value_of_prefix, Holds, Valid, Valuation}
 use Rattle.spx_term.proofs.Terms.{value-Infix, value-Number, value-Truth, value-Variable}
+use Rattle.spx_examples.specs.Names.{target_to}
 use Rattle.spx_examples.specs.Types.{no_composites}
 use Rattle.spx_meaning.specs.declared.bad.BadKind.TheVariants.{Overflow, Pre, Unset}
 use Rattle.spx_meaning.specs.declared.bad.BadKind.TheVariants as bad
@@ -57,9 +57,9 @@ use Rattle.spx_meaning.specs.Runs.{Outcome, Ended, Left, Bad, Later, after_turn,
 use Rattle.spx_meaning.specs.Stores.{Store, look, type_of, is_in, types_of}
 use Rattle.spx_meaning.proofs.Callers.Annotations.{computed_is_meant}
 use Rattle.spx_examples.specs.Assertions.{doing, program_of}
-use Rattle.spx_examples.specs.Increment.{place, integer_at, x, x_at, x_named, successor, step, inc, increment, entry_x}
+use Rattle.spx_examples.specs.Increment.{place, integer_at, x, x_at, successor, step, inc, increment, entry_x}
 use Rattle.spx_examples.specs.CountedLoops.{before, between_numbers, i, i_at, over, with_parameter}
-use Rattle.spx_examples.specs.Flag.{flag, named, y}
+use Rattle.spx_examples.specs.Flag.{flag, y}
 use Rattle.spx_examples.specs.Flag as flags
 use Rattle.spx_examples.specs.Loops.{endless, passing_on, passing_turn_by_turn, runs_from}
 use Rattle.spx_examples.specs.Loops as loops
@@ -396,7 +396,7 @@ unset_is_large =
 -- ---- in a check after an assignment
 
 after_step : commands checking_power.statements ≡ Then (step_command 6 4 9) (Then (Assertion Check (place 7 8) (positive_power_at 7 14)) Skip)
-after_step = ap₂ (λ a b. Then a (Then b Skip)) (command-Assignment (target_at (x_named 6 4)) (successor 6 9)) (command-Assertion Check (place 7 8) (positive_power_at 7 14))
+after_step = ap₂ (λ a b. Then a (Then b Skip)) (command-Assignment (target_to (x_at 6 4)) (successor 6 9)) (command-Assertion Check (place 7 8) (positive_power_at 7 14))
 
 module _ (n : ℕ) (m : ℤ) where
   abbrev checking_frame : Frame
@@ -654,11 +654,11 @@ others_kept n v w =
 
 -- `name := X`, from 41
 reaches : (name : CoreName) (n : ℕ) (v w : Option Value) → call (with_other (reaching name)) n (reaching name) (all_of (number (pos 41)) v w)
-    ≡ to_end (reaching name) (taking (around (with_other (reaching name)) (reaching name) (all_of (number (pos 41)) v w)) (all_of (number (pos 41)) v w) (named name) (Name (x_at 6 9)) (Gives (value.Number (pos 41))))
+    ≡ to_end (reaching name) (taking (around (with_other (reaching name)) (reaching name) (all_of (number (pos 41)) v w)) (all_of (number (pos 41)) v w) name (Name (x_at 6 9)) (Gives (value.Number (pos 41))))
 reaches name n v w =
     let s : Store = all_of (number (pos 41)) v w in
     let f : Frame = around (with_other (reaching name)) (reaching name) s in
-    ap (to_end (reaching name)) (assigns f n s (named name) (Name (x_at 6 9)) (Gives (value.Number (pos 41))) (eval_name f n s (x_at 6 9)))
+    ap (to_end (reaching name)) (assigns f n s name (Name (x_at 6 9)) (Gives (value.Number (pos 41))) (eval_name f n s (x_at 6 9)))
 
 pub formal_changes : (n : ℕ) (v w : Option Value) → call (with_other (reaching (y_at 6 4))) n (reaching (y_at 6 4)) (all_of (number (pos 41)) v w) ≡ Ended (all_of (number (pos 41)) (number (pos 41)) w)
 formal_changes n v w = reaches (y_at 6 4) n v w

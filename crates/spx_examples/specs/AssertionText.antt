@@ -18,6 +18,7 @@ use Rattle.spx_examples.specs.Assertions.{is_next, is_positive, post_on, program
 use Rattle.spx_examples.specs.Example.{in_annotation, in_code}
 use Rattle.spx_examples.specs.Increment.{place, word, x_written, step_written, inc_written}
 use Rattle.spx_examples.specs.IncrementText.{ended, heading_tokens, derives_tokens}
+use Rattle.spx_examples.specs.Names.{entry_named, value_named}
 
 -- the lines before the annotation
 abbrev pub lines_before : List ℕ
@@ -100,11 +101,11 @@ asserted_tokens = tokens_with check_tokens
 -- `X = X~ + 1`
 abbrev pub next_written : Expr
 next_written =
-    written_expr.Infix op.Equal (place 3 12) (written_expr.Name (x_written 3 10)) (written_expr.Infix op.Add (place 3 17) (written_expr.Entry (word (codes "X") 3 14)) (written_expr.Number (pos 1) (place 3 19)))
+    written_expr.Infix op.Equal (place 3 12) (value_named (x_written 3 10)) (written_expr.Infix op.Add (place 3 17) (entry_named (word (codes "X") 3 14)) (written_expr.Number (pos 1) (place 3 19)))
 
 -- `X > 0`, at this column
 abbrev pub positive_written : ℕ → Expr
-positive_written column = written_expr.Infix op.Greater (place 7 (column + 2)) (written_expr.Name (x_written 7 column)) (written_expr.Number (pos 0) (place 7 (column + 4)))
+positive_written column = written_expr.Infix op.Greater (place 7 (column + 2)) (value_named (x_written 7 column)) (written_expr.Number (pos 0) (place 7 (column + 4)))
 
 -- `assert` or `check` of that
 abbrev pub noted_written : AssertionKind → ℕ → Stmt

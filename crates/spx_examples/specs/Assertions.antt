@@ -15,7 +15,6 @@ use Rattle.spx_tree.specs.declared.expression.InfixOp.{InfixOp}
 use Rattle.spx_tree.specs.declared.expression.InfixOp.TheVariants as op
 use Rattle.spx_tree.specs.declared.expression.Expr.{Expr}
 use Rattle.spx_tree.specs.declared.expression.Expr.TheVariants as written_expr
-use Rattle.spx_tree.specs.declared.expression.Name.TheVariants.{Simple}
 use Rattle.spx_tree.specs.declared.statement.AssertionKind.{AssertionKind}
 use Rattle.spx_tree.specs.declared.statement.AssertionKind.TheVariants as assertion
 use Rattle.spx_tree.specs.declared.statement.Stmt.TheVariants as written_stmt
@@ -50,6 +49,7 @@ use Rattle.spx_formula.specs.Terms.{now}
 use Rattle.spx_examples.specs.Branches.{arm}
 use Rattle.spx_examples.specs.Example.{in_annotation, in_code}
 use Rattle.spx_examples.specs.Increment.{place, word, x, x_at, step, inc, increment, x_written, successor_written, entry_x, entry_below, next_x, known_entry, sum_goals, at_least_first, at_most_last}
+use Rattle.spx_examples.specs.Names.{entry_named, simple, value_named}
 use Rattle.spx_examples.specs.Next.{below_hundred, closing, forked, x_now}
 use Rattle.spx_examples.specs.NameRules.{stepping, with_relation, with_local}
 use Rattle.spx_examples.specs.Operators.{two, truth, values}
@@ -270,7 +270,7 @@ checks_import =
 
 -- `name~ > 0`, at the line and column of its name
 abbrev pub entry_written : List ℕ → ℕ → ℕ → Expr
-entry_written name line column = written_expr.Infix op.Greater (place line (column + 3)) (written_expr.Entry (word name line column)) (written_expr.Number (pos 0) (place line (column + 5)))
+entry_written name line column = written_expr.Infix op.Greater (place line (column + 3)) (entry_named (word name line column)) (written_expr.Number (pos 0) (place line (column + 5)))
 
 -- the procedure `X := X + 1` with this precondition, and with this postcondition, in line 3
 abbrev pub requiring : Subprogram → Expr → Subprogram
@@ -285,13 +285,13 @@ looking s condition = record s { statements = written_stmt.Assertion assertion.C
 
 -- a parameter of a name of one letter, at its column
 abbrev pub param_written : List ℕ → WrittenMode → ℕ → Param
-param_written name mode column = record { names = word name 1 column ∷ []; mode = mode; type_name = Simple (word (codes "Integer") 1 (column + 8)) }
+param_written name mode column = record { names = word name 1 column ∷ []; mode = mode; type_name = simple (word (codes "Integer") 1 (column + 8)) }
 
 -- `(X : in Integer; Y : out Integer)`, with `derives Y from X` and `Y := X + 1`
 abbrev pub two_formals : Subprogram
 two_formals = record (with_relation stepping (codes "Y") (codes "X")) {
   formal_part = Some (record { place = place 1 15; params = param_written (codes "X") (written.In (place 1 20)) 16 ∷ param_written (codes "Y") written.Out 32 ∷ [] });
-  statements = written_stmt.Assignment (Simple (word (codes "Y") 6 4)) (successor_written 6 9) ∷ [];
+  statements = written_stmt.Assignment (simple (word (codes "Y") 6 4)) (successor_written 6 9) ∷ [];
 }
 
 -- with a local `Y : Integer`
@@ -318,7 +318,7 @@ implying left right = written_expr.Infix op.Implies (place 3 16) left right
 
 -- `X > 0`
 abbrev pub positive_written : Expr
-positive_written = written_expr.Infix op.Greater (place 3 12) (written_expr.Name (x_written 3 10)) (written_expr.Number (pos 0) (place 3 14))
+positive_written = written_expr.Infix op.Greater (place 3 12) (value_named (x_written 3 10)) (written_expr.Number (pos 0) (place 3 14))
 
 -- ---- lexemes
 

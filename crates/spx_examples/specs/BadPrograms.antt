@@ -16,9 +16,9 @@ use Rattle.spx_core.specs.declared.statement.CoreScheme.TheVariants as scheme
 use Rattle.spx_core.specs.declared.statement.CoreStmt.{CoreStmt}
 use Rattle.spx_core.specs.declared.statement.CoreStmt.TheVariants as stmt
 use Rattle.spx_core.specs.declared.subprogram.Sub.{Sub}
-use Rattle.spx_core.specs.Resolved.{target_at}
 use Rattle.spx_examples.specs.Assertions.{checking, doing, is_kept, is_positive, noting, promising}
-use Rattle.spx_examples.specs.Increment.{place, x_at, x_named, inc, increment}
+use Rattle.spx_examples.specs.Increment.{place, x_at, inc, increment}
+use Rattle.spx_examples.specs.Names.{target_to}
 use Rattle.spx_examples.specs.Refused.{inc_without_pre}
 use Rattle.spx_examples.specs.VariableRules.{requiring}
 use Rattle.spx_examples.specs.Variants.{only_null, out_x_at, out_sub, out_program}
@@ -31,7 +31,7 @@ quotient = expr.Infix op.Divide (place 6 11) (expr.Number (pos 1) (place 6 9)) (
 
 -- the procedure
 abbrev pub dividing : Sub
-dividing = doing (stmt.Assignment (target_at (x_named 6 4)) quotient ∷ []) 7
+dividing = doing (stmt.Assignment (target_to (x_at 6 4)) quotient ∷ []) 7
 
 -- ---- `X := X + 1` with the postcondition `X = X~`
 

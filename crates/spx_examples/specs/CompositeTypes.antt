@@ -5,7 +5,6 @@ use Rattle.spx_tree.specs.declared.declaration.Decl.TheVariants.{FullType}
 use Rattle.spx_tree.specs.declared.declaration.FieldDecl.{FieldDecl}
 use Rattle.spx_tree.specs.declared.declaration.TypeDef.TheVariants as definition
 use Rattle.spx_tree.specs.declared.expression.Identifier.{Identifier}
-use Rattle.spx_tree.specs.declared.expression.Name.TheVariants.{Simple}
 use Rattle.spx_core.specs.declared.program.TypeForm.{TypeForm}
 use Rattle.spx_core.specs.declared.program.TypeRow.{TypeRow}
 use Rattle.spx_core.specs.declared.rule.RuleName.{RuleName}
@@ -15,10 +14,11 @@ use Rattle.spx_core.specs.Regions.{Region, standard}
 use Rattle.spx_core.specs.Resolved.{at_start, composite_type, declared_by, declaring_all, resolved_decl, rows_by}
 use Rattle.spx_core.specs.Statements.{judged_decl}
 use Rattle.spx_examples.specs.Increment.{place, word}
+use Rattle.spx_examples.specs.Names.{simple}
 
 -- `type T is array (index) of element`, with these names at the columns 20 and 40
 abbrev pub array_of : (index element : List ℕ) → Decl
-array_of index element = FullType (word (codes "T") 4 9) (definition.Array (place 4 19) (Simple (word index 4 20)) (Simple (word element 4 40)))
+array_of index element = FullType (word (codes "T") 4 9) (definition.Array (place 4 19) (simple (word index 4 20)) (simple (word element 4 40)))
 
 -- the names of fields, the first of them at this column
 abbrev pub names_in : ℕ → List (List ℕ) → List Identifier
@@ -27,7 +27,7 @@ names_in column (name ∷ names) = word name 4 column ∷ names_in (column + 3) 
 
 -- `names : type_name`, with the first name at this column, and the type 20 columns after it
 abbrev pub fields_in : ℕ → List (List ℕ) → List ℕ → FieldDecl
-fields_in column names type_name = record { names = names_in column names; type_name = Simple (word type_name 4 (column + 20)) }
+fields_in column names type_name = record { names = names_in column names; type_name = simple (word type_name 4 (column + 20)) }
 
 -- `type T is record fields end record`
 abbrev pub record_of : List FieldDecl → Decl

@@ -19,9 +19,9 @@ use Rattle.spx_core.specs.declared.statement.CoreStmt.{CoreStmt}
 use Rattle.spx_core.specs.declared.statement.CoreStmt.TheVariants as stmt
 use Rattle.spx_core.specs.declared.subprogram.CoreParam.{CoreParam}
 use Rattle.spx_core.specs.declared.subprogram.Sub.{Sub}
-use Rattle.spx_core.specs.Resolved.{target_at}
 use Rattle.spx_examples.specs.Increment.{place, word, x, integer_at}
 use Rattle.spx_examples.specs.Flag.{y, formal_of, y_at, named, x_formal, y_formal, flag_declared, flag, flag_program}
+use Rattle.spx_examples.specs.Names.{target_to}
 
 -- its third variable
 abbrev pub z : VarId
@@ -37,7 +37,7 @@ z_formal = record { names = record { name = word (codes "Z") 1 50; entity = form
 
 -- `Y := Z`
 abbrev pub copying : CoreStmt
-copying = stmt.Assignment (target_at (named (y_at 5 4))) (expr.Name (z_at 5 9))
+copying = stmt.Assignment (target_to (y_at 5 4)) (expr.Name (z_at 5 9))
 
 -- the procedure
 abbrev pub copy : Sub

@@ -13,7 +13,6 @@ use Rattle.spx_core.specs.declared.program.Program.{Program}
 use Rattle.spx_core.specs.declared.statement.CoreRange.{CoreRange}
 use Rattle.spx_core.specs.declared.statement.CoreCount.{CoreCount}
 use Rattle.spx_core.specs.Commands.{Command, Skip, Set, Then, Repeat, Counted}
-use Rattle.spx_core.specs.Resolved.{target_at}
 use Rattle.spx_term.specs.declared.term.TermOp.TheVariants as sign
 use Rattle.spx_term.specs.declared.term.Term.{Term}
 use Rattle.spx_term.specs.declared.term.Term.TheVariants as term
@@ -24,6 +23,7 @@ use Rattle.spx_meaning.specs.Stores.{Store}
 use Rattle.spx_formula.specs.Terms.{now}
 use Rattle.spx_examples.specs.Flag.{flag, flag_program, named, x_at, y_at}
 use Rattle.spx_examples.specs.Increment.{place, word}
+use Rattle.spx_examples.specs.Names.{target_to}
 use Rattle.spx_examples.specs.Variants.{number}
 
 -- ---- loops
@@ -75,7 +75,7 @@ up_to_y = Some (record { low = number_at (pos 1) 28; high = expr.Name (y_at 5 33
 
 -- `Y := I`
 abbrev pub taking_i : Command
-taking_i = only (Set (target_at (named (y_at 6 7))) (expr.Name (i_at 6 12)))
+taking_i = only (Set (target_to (y_at 6 7)) (expr.Name (i_at 6 12)))
 
 -- ---- runs
 

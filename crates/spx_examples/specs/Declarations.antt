@@ -11,14 +11,12 @@ use Rattle.spx_tree.specs.declared.expression.Identifier.{Identifier}
 use Rattle.spx_tree.specs.declared.expression.InfixOp.{InfixOp}
 use Rattle.spx_tree.specs.declared.expression.InfixOp.TheVariants as op
 use Rattle.spx_tree.specs.declared.expression.Name.{Name}
-use Rattle.spx_tree.specs.declared.expression.Name.TheVariants.{Simple, Attribute}
 use Rattle.spx_tree.specs.declared.expression.PrefixOp.{PrefixOp}
 use Rattle.spx_tree.specs.declared.expression.PrefixOp.TheVariants.{Minus}
 use Rattle.spx_tree.specs.declared.statement.Stmt.{Stmt}
 use Rattle.spx_tree.specs.declared.statement.Stmt.TheVariants.{Assignment}
 use Rattle.spx_tree.specs.declared.subprogram.Subprogram.{Subprogram}
 use Rattle.spx_tree.specs.declared.subprogram.Unit.TheVariants as unit
-use Rattle.spx_tree.specs.Written.{operation, signed}
 use Rattle.spx_core.specs.declared.entity.BaseType.{BaseType}
 use Rattle.spx_core.specs.declared.entity.Class.TheVariants as class
 use Rattle.spx_core.specs.declared.entity.Entity.{Entity}
@@ -40,14 +38,14 @@ use Rattle.spx_core.specs.declared.subprogram.Sub.{Sub}
 use Rattle.spx_core.specs.Commands.{commands}
 use Rattle.spx_core.specs.Obeyed.{first_rule_breach}
 use Rattle.spx_core.specs.Regions.{denoted}
-use Rattle.spx_core.specs.Resolved.{around_body, at_start, declaring_all, formal_names, local_names, resolved, resolved_sub, standard_types, target_at, unit_name}
+use Rattle.spx_core.specs.Resolved.{around_body, at_start, declaring_all, formal_names, local_names, resolved, resolved_sub, standard_types, unit_name}
 use Rattle.spx_core.specs.Statements.{first_name_breach}
 use Rattle.spx_meaning.specs.Frames.{around}
 use Rattle.spx_meaning.specs.Runs.{Outcome, run}
 use Rattle.spx_meaning.specs.Stores.{Store}
-use Rattle.spx_examples.specs.Flag.{named}
 use Rattle.spx_examples.specs.Increment.{place, word, x_written, inc_written, increment}
 use Rattle.spx_examples.specs.NameRules.{alone}
+use Rattle.spx_examples.specs.Names.{attribute, operation, path_of, signed, simple, target_to, without_parts}
 use Rattle.spx_examples.specs.Operators.{a_at, number, two, values}
 
 -- ---- expressions, each at its line and column
@@ -56,11 +54,11 @@ abbrev pub number_in : ℤ → ℕ → ℕ → Expr
 number_in n line column = written_expr.Number n (place line column)
 
 abbrev pub name_in : List ℕ → ℕ → ℕ → Expr
-name_in text line column = written_expr.Name (Simple (word text line column))
+name_in text line column = without_parts (path_of (word text line column) [])
 
 -- `text'designator`
 abbrev pub attribute_in : (text designator : List ℕ) → ℕ → ℕ → Expr
-attribute_in text designator line column = written_expr.Name (Attribute (word text line column) (word designator line (column + 8)))
+attribute_in text designator line column = without_parts (attribute (word text line column) (word designator line (column + 8))).path
 
 -- a sign, with its operand in the next column
 abbrev pub signed_in : PrefixOp → (ℕ → ℕ → Expr) → ℕ → ℕ → Expr
@@ -91,15 +89,15 @@ enumeration_in line name literals = written_decl.FullType (word name line 4) (wr
 
 -- `subtype name is parent`
 abbrev pub subtype_in : ℕ → (name parent : List ℕ) → Decl
-subtype_in line name parent = written_decl.Subtype (word name line 4) (Simple (word parent line 20)) None
+subtype_in line name parent = written_decl.Subtype (word name line 4) (simple (word parent line 20)) None
 
 -- `subtype name is parent range low .. high`
 abbrev pub narrowed_in : ℕ → (name parent : List ℕ) → (low high : ℕ → ℕ → Expr) → Decl
-narrowed_in line name parent low high = written_decl.Subtype (word name line 4) (Simple (word parent line 20)) (Some (record { low = low line 30; high = high line 50 }))
+narrowed_in line name parent low high = written_decl.Subtype (word name line 4) (simple (word parent line 20)) (Some (record { low = low line 30; high = high line 50 }))
 
 -- `name : constant type_name := value`
 abbrev pub constant_in : ℕ → (name type_name : List ℕ) → (value : ℕ → ℕ → Expr) → Decl
-constant_in line name type_name value = written_decl.Constants (word name line 4 ∷ []) (Some (Simple (word type_name line 20))) (value line 30)
+constant_in line name type_name value = written_decl.Constants (word name line 4 ∷ []) (Some (simple (word type_name line 20))) (value line 30)
 
 -- `name : constant := value`
 abbrev pub named_number_in : ℕ → List ℕ → (value : ℕ → ℕ → Expr) → Decl
@@ -107,7 +105,7 @@ named_number_in line name value = written_decl.Constants (word name line 4 ∷ [
 
 -- `name : type_name`
 abbrev pub variable_in : ℕ → (name type_name : List ℕ) → Decl
-variable_in line name type_name = written_decl.Variables (word name line 4 ∷ []) (Simple (word type_name line 20)) None
+variable_in line name type_name = written_decl.Variables (word name line 4 ∷ []) (simple (word type_name line 20)) None
 
 -- ---- the procedure
 
@@ -231,7 +229,7 @@ local name subtype = record { name = name; kind = Local; type_id = subtype.id }
 
 -- in this program the assignment ends so, from this store
 abbrev pub Assigned : Program → Store → CoreName → CoreExpr → Outcome → Type 0
-Assigned p s target value outcome = (sub : Sub) (entry : Store) (bound : ℕ) → run (around p sub entry) bound s (commands (Set (target_at (named target)) value ∷ [])) ≡ outcome
+Assigned p s target value outcome = (sub : Sub) (entry : Store) (bound : ℕ) → run (around p sub entry) bound s (commands (Set (target_to target) value ∷ [])) ≡ outcome
 
 -- A and B, of the type T
 abbrev pub t_program : Program

@@ -39,7 +39,6 @@ use Rattle.spx_core.specs.declared.dependency.CoreDerivesItem.{CoreDerivesItem}
 use Rattle.spx_core.specs.declared.subprogram.CoreParam.{CoreParam}
 use Rattle.spx_core.specs.declared.subprogram.Sub.{Sub}
 use Rattle.spx_core.specs.Commands.{Command, Skip, Set, Then, Assertion, Repeat, Counted}
-use Rattle.spx_core.specs.Resolved.{target_at}
 use Rattle.spx_term.specs.declared.condition.CondKind.TheVariants as kind
 use Rattle.spx_term.specs.declared.condition.Condition.{Condition}
 use Rattle.spx_term.specs.declared.term.TermOp.{TermOp}
@@ -49,6 +48,7 @@ use Rattle.spx_term.specs.declared.term.Term.TheVariants as term
 use Rattle.spx_formula.specs.Terms.{now_term}
 use Rattle.spx_examples.specs.Increment.{place, word, integer_at, inc_id, increment, at_least_first, at_most_last}
 use Rattle.spx_examples.specs.Flag.{named}
+use Rattle.spx_examples.specs.Names.{target_to}
 
 -- ---- the program
 
@@ -119,7 +119,7 @@ s_is_twice_i = is_twice (i_at 10 26) 10 18
 
 -- `S := 0`
 abbrev pub set_zero : CoreStmt
-set_zero = stmt.Assignment (target_at (named (s_at 7 4))) (number (pos 0) 7 9)
+set_zero = stmt.Assignment (target_to (s_at 7 4)) (number (pos 0) 7 9)
 
 -- `S + 2`
 abbrev pub two_more : CoreExpr
@@ -127,7 +127,7 @@ two_more = operation op.Add 9 14 (expr.Name (s_at 9 12)) (number (pos 2) 9 16)
 
 -- `S := S + 2`
 abbrev pub add_two : CoreStmt
-add_two = stmt.Assignment (target_at (named (s_at 9 7))) two_more
+add_two = stmt.Assignment (target_to (s_at 9 7)) two_more
 
 -- `assert S = 2 * I`
 abbrev pub asserting : CoreStmt
@@ -189,10 +189,10 @@ double_program = record increment { vars = variable (codes "N") (Formal In) ∷ 
 
 -- its body as a command, and that of the loop
 abbrev pub turn : Command
-turn = Then (Set (target_at (named (s_at 9 7))) two_more) (Then (Assertion assertion.Assert (place 10 11) s_is_twice_i) Skip)
+turn = Then (Set (target_to (s_at 9 7)) two_more) (Then (Assertion assertion.Assert (place 10 11) s_is_twice_i) Skip)
 
 abbrev pub double_command : Command
-double_command = Then (Set (target_at (named (s_at 7 4))) (number (pos 0) 7 9)) (Then (Repeat (Counted count) turn) Skip)
+double_command = Then (Set (target_to (s_at 7 4)) (number (pos 0) 7 9)) (Then (Repeat (Counted count) turn) Skip)
 
 -- ---- its conditions
 

@@ -7,7 +7,6 @@ use Rattle.spx_tree.specs.declared.expression.Expr.{Expr}
 use Rattle.spx_tree.specs.declared.expression.Expr.TheVariants as written_expr
 use Rattle.spx_tree.specs.declared.expression.InfixOp.TheVariants as op
 use Rattle.spx_tree.specs.declared.expression.Name.{Name}
-use Rattle.spx_tree.specs.declared.expression.Name.TheVariants.{Simple}
 use Rattle.spx_tree.specs.declared.statement.AssertionKind.TheVariants as assertion
 use Rattle.spx_tree.specs.declared.statement.Count.{Count}
 use Rattle.spx_tree.specs.declared.statement.Scheme.TheVariants as written_scheme
@@ -24,6 +23,7 @@ use Rattle.spx_examples.specs.Doubling.{closing}
 use Rattle.spx_examples.specs.Example.{in_annotation, in_code}
 use Rattle.spx_examples.specs.Increment.{place, word}
 use Rattle.spx_examples.specs.IncrementText.{ended}
+use Rattle.spx_examples.specs.Names.{simple, value_named}
 
 -- its bytes, line by line
 abbrev pub double_bytes : List ℕ
@@ -135,11 +135,11 @@ double_tokens = heading_tokens ++ condition_tokens ++ loop_tokens ++ turn_tokens
 -- ---- its tree
 
 -- a name of one word, where a variable or a type is needed, and where a value is
-abbrev pub simple : List ℕ → ℕ → ℕ → Name
-simple text line column = Simple (word text line column)
+abbrev pub simple_at : List ℕ → ℕ → ℕ → Name
+simple_at text line column = simple (word text line column)
 
 abbrev pub value_at : List ℕ → ℕ → ℕ → Expr
-value_at text line column = written_expr.Name (simple text line column)
+value_at text line column = value_named (simple_at text line column)
 
 abbrev pub number_at : ℤ → ℕ → ℕ → Expr
 number_at k line column = written_expr.Number k (place line column)
@@ -159,18 +159,18 @@ twice_written text line column =
 
 -- `N : in Integer` and `S : out Integer`
 abbrev pub n_written : Param
-n_written = record { names = word (codes "N") 1 19 ∷ []; mode = written.In (place 1 23); type_name = simple (codes "Integer") 1 26 }
+n_written = record { names = word (codes "N") 1 19 ∷ []; mode = written.In (place 1 23); type_name = simple_at (codes "Integer") 1 26 }
 
 abbrev pub s_written : Param
-s_written = record { names = word (codes "S") 1 35 ∷ []; mode = written.Out; type_name = simple (codes "Integer") 1 43 }
+s_written = record { names = word (codes "S") 1 35 ∷ []; mode = written.Out; type_name = simple_at (codes "Integer") 1 43 }
 
 -- `S from N`
 abbrev pub item_written : DerivesItem
-item_written = record { exports = exports.Names (simple (codes "S") 2 13 ∷ []); imports = record { itself = None; names = simple (codes "N") 2 20 ∷ [] } }
+item_written = record { exports = exports.Names (simple_at (codes "S") 2 13 ∷ []); imports = record { itself = None; names = simple_at (codes "N") 2 20 ∷ [] } }
 
 -- `S := 0`
 abbrev pub zero_written : Stmt
-zero_written = written_stmt.Assignment (simple (codes "S") 7 4) (number_at (pos 0) 7 9)
+zero_written = written_stmt.Assignment (simple_at (codes "S") 7 4) (number_at (pos 0) 7 9)
 
 -- `S + 2`
 abbrev pub sum_written : Expr
@@ -178,7 +178,7 @@ sum_written = written_expr.Infix op.Add (place 9 14) (value_at (codes "S") 9 12)
 
 -- `S := S + 2`
 abbrev pub add_written : Stmt
-add_written = written_stmt.Assignment (simple (codes "S") 9 7) sum_written
+add_written = written_stmt.Assignment (simple_at (codes "S") 9 7) sum_written
 
 -- `assert S = 2 * I`
 abbrev pub assert_written : Stmt
@@ -190,7 +190,7 @@ range_written = record { low = number_at (pos 1) 8 27; high = value_at (codes "N
 
 -- `for I in Integer range 1 .. N`
 abbrev pub count_written : Count
-count_written = record { place = place 8 4; name = word (codes "I") 8 8; word = place 8 10; is_reverse = false; type_name = simple (codes "Integer") 8 13; bounds = Some range_written }
+count_written = record { place = place 8 4; name = word (codes "I") 8 8; word = place 8 10; is_reverse = false; type_name = simple_at (codes "Integer") 8 13; bounds = Some range_written }
 
 -- the loop
 abbrev pub counting_written : Stmt

@@ -25,13 +25,13 @@ use Rattle.spx_core.specs.declared.statement.CoreStmt.{CoreStmt}
 use Rattle.spx_core.specs.declared.statement.CoreStmt.TheVariants as stmt
 use Rattle.spx_core.specs.declared.subprogram.Sub.{Sub}
 use Rattle.spx_core.specs.Commands.{Command, Then, exit_where}
-use Rattle.spx_core.specs.Resolved.{target_at}
 use Rattle.spx_examples.specs.Assertions.{doing, program_of}
 use Rattle.spx_examples.specs.Example.{in_code}
 use Rattle.spx_examples.specs.Exits.{loop}
-use Rattle.spx_examples.specs.Increment.{place, word, inc_written, successor, successor_written, x_named, x_written}
+use Rattle.spx_examples.specs.Increment.{place, word, inc_written, successor, successor_written, x_written, x_at}
 use Rattle.spx_examples.specs.IncrementText.{ended, heading_tokens, derives_tokens}
 use Rattle.spx_examples.specs.Loops.{only, step_in}
+use Rattle.spx_examples.specs.Names.{target_to}
 use Rattle.spx_examples.specs.Next.{below_hundred_at, below_written}
 
 -- its bytes, line by line
@@ -112,7 +112,7 @@ abbrev pub exit_resolved : CoreStmt
 exit_resolved = stmt.Exit (place 6 7) (Some (below_hundred_at 6 17))
 
 abbrev pub step_resolved : CoreStmt
-step_resolved = stmt.Assignment (target_at (x_named 7 7)) (successor 7 12)
+step_resolved = stmt.Assignment (target_to (x_at 7 7)) (successor 7 12)
 
 abbrev pub loop_resolved : CoreStmt
 loop_resolved = stmt.Loop scheme.Endless (place 5 4) (exit_resolved ∷ step_resolved ∷ []) closing

@@ -6,13 +6,12 @@ use Rattle.spx_core.specs.declared.statement.Around.TheVariants as around
 use Rattle.spx_core.specs.Commands.{Command, Skip, Set, Then, Choose, Leave, Repeat, Endless, exit_where}
 use Rattle.spx_core.specs.Judged.{breach_in}
 use Rattle.spx_core.specs.Obeyed.{obeyed_command}
-use Rattle.spx_core.specs.Resolved.{target_at}
 use Rattle.spx_term.specs.declared.term.TermPrefix.TheVariants.{Not}
 use Rattle.spx_term.specs.declared.term.Term.TheVariants as term
 use Rattle.spx_term.specs.Steps.{Tree, Assume, Split}
-use Rattle.spx_examples.specs.Flag.{named}
-use Rattle.spx_examples.specs.Increment.{place, x_at, x_named}
+use Rattle.spx_examples.specs.Increment.{place, x_at}
 use Rattle.spx_examples.specs.Loops.{only, set_x, step_in, y_is_positive, z_at}
+use Rattle.spx_examples.specs.Names.{target_to}
 use Rattle.spx_examples.specs.Next.{below_hundred, below_now}
 use Rattle.spx_examples.specs.Variants.{local_y_at as y_at}
 
@@ -58,11 +57,11 @@ exit_last = loop (Then set_x (only exit_where_positive))
 
 -- `loop if Y > 0 then X := Z; exit; end if; end loop`
 abbrev pub set_and_exit : Command
-set_and_exit = loop (only (Choose (place 6 7) y_is_positive (Then (Set (target_at (x_named 7 10)) (expr.Name (z_at 7 15))) (only (Leave (place 8 10)))) Skip))
+set_and_exit = loop (only (Choose (place 6 7) y_is_positive (Then (Set (target_to (x_at 7 10)) (expr.Name (z_at 7 15))) (only (Leave (place 8 10)))) Skip))
 
 -- `loop null; end loop; Y := X`
 abbrev pub after_never_left : Command
-after_never_left = Then never_left (only (Set (target_at (named (y_at 8 4))) (expr.Name (x_at 8 9))))
+after_never_left = Then never_left (only (Set (target_to (y_at 8 4)) (expr.Name (x_at 8 9))))
 
 -- ---- rules
 

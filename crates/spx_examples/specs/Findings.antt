@@ -23,10 +23,10 @@ use Rattle.spx_core.specs.declared.dependency.CoreDerivesItem.{CoreDerivesItem}
 use Rattle.spx_core.specs.declared.subprogram.CoreParam.{CoreParam}
 use Rattle.spx_core.specs.declared.subprogram.Sub.{Sub}
 use Rattle.spx_core.specs.Dependency.{Pair}
-use Rattle.spx_core.specs.Resolved.{target_at}
 use Rattle.spx_examples.specs.Branches.{arm}
 use Rattle.spx_examples.specs.Increment.{place, word, x, x_at, x_named, integer_at, x_declared, formal, step, inc, increment}
 use Rattle.spx_examples.specs.Flag.{y, formal_of, y_at, named, y_formal, positive, setting, closing, flag, flag_program}
+use Rattle.spx_examples.specs.Names.{target_to}
 use Rattle.spx_examples.specs.Variants.{out_x_at}
 use Rattle.spx_examples.specs.Flag as in_flag
 
@@ -34,7 +34,7 @@ use Rattle.spx_examples.specs.Flag as in_flag
 
 -- `target := value`
 abbrev pub gives : CoreName → CoreExpr → CoreStmt
-gives target value = stmt.Assignment (target_at (named target)) value
+gives target value = stmt.Assignment (target_to target) value
 
 -- `exports from imports`
 abbrev pub derived : List Reference → List Reference → CoreDerivesItem

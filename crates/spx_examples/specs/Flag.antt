@@ -31,9 +31,9 @@ use Rattle.spx_core.specs.declared.dependency.CoreDerivesItem.{CoreDerivesItem}
 use Rattle.spx_core.specs.declared.subprogram.CoreParam.{CoreParam}
 use Rattle.spx_core.specs.declared.subprogram.Sub.{Sub}
 use Rattle.spx_core.specs.Effects.{Effect, nothing, assign, next, choose}
-use Rattle.spx_core.specs.Resolved.{target_at}
 use Rattle.spx_examples.specs.Branches.{arm}
 use Rattle.spx_examples.specs.Increment.{place, word, x, integer_at, inc_id, increment}
+use Rattle.spx_examples.specs.Names.{reference_to, target_to}
 
 -- its second variable
 abbrev pub y : VarId
@@ -53,7 +53,7 @@ y_at line column = record { name = word (codes "Y") line column; entity = Some (
 
 -- a name where a variable is needed
 abbrev pub named : CoreName → Reference
-named name = record { root = name; way = [] }
+named name = reference_to name
 
 -- `X : in Integer`
 abbrev pub x_formal : CoreParam
@@ -77,7 +77,7 @@ one = expr.Number (pos 1) (place 6 12)
 
 -- `Y := 1`
 abbrev pub setting : CoreStmt
-setting = stmt.Assignment (target_at (named (y_at 6 7))) one
+setting = stmt.Assignment (target_to (y_at 6 7)) one
 
 -- `end if`
 abbrev pub closing : Closing

@@ -4,7 +4,6 @@ use Rattle.spx_text.specs.declared.place.Place.{Place}
 use Rattle.spx_tree.specs.declared.expression.Identifier.{Identifier}
 use Rattle.spx_tree.specs.declared.expression.InfixOp.TheVariants as op
 use Rattle.spx_tree.specs.declared.expression.Name.{Name}
-use Rattle.spx_tree.specs.declared.expression.Name.TheVariants.{Simple, Attribute}
 use Rattle.spx_tree.specs.declared.expression.Expr.{Expr}
 use Rattle.spx_tree.specs.declared.expression.Expr.TheVariants as written_expr
 use Rattle.spx_tree.specs.declared.statement.Stmt.{Stmt}
@@ -20,7 +19,7 @@ use Rattle.spx_core.specs.declared.entity.TheConstants.{INTEGER, INTEGER_FIRST, 
 use Rattle.spx_core.specs.declared.entity.Object.{Object}
 use Rattle.spx_core.specs.declared.name.Defining.{Defining}
 use Rattle.spx_core.specs.declared.name.Reference.{Reference}
-use Rattle.spx_core.specs.Resolved.{standard_types, target_at}
+use Rattle.spx_core.specs.Resolved.{standard_types}
 use Rattle.spx_core.specs.declared.entity.VarKind.TheVariants.{Formal}
 use Rattle.spx_core.specs.declared.entity.VarId.{VarId}
 use Rattle.spx_core.specs.declared.entity.SubId.{SubId}
@@ -44,6 +43,7 @@ use Rattle.spx_term.specs.declared.term.Symbol.TheVariants as symbol
 use Rattle.spx_term.specs.declared.term.TermOp.TheVariants as sign
 use Rattle.spx_term.specs.declared.term.Term.{Term}
 use Rattle.spx_term.specs.declared.term.Term.TheVariants as term
+use Rattle.spx_examples.specs.Names.{attribute, reference_to, simple, target_to, value_named}
 
 -- ---- the file
 
@@ -57,11 +57,11 @@ word text line column = record { text = text; place = place line column }
 
 -- `X`, at its line and column
 abbrev pub x_written : ℕ → ℕ → Name
-x_written line column = Simple (word (codes "X") line column)
+x_written line column = simple (word (codes "X") line column)
 
 -- `X : in out Integer`
 abbrev pub formal_written : Param
-formal_written = record { names = word (codes "X") 1 16 ∷ []; mode = written.InOut (place 1 20); type_name = Simple (word (codes "Integer") 1 27) }
+formal_written = record { names = word (codes "X") 1 16 ∷ []; mode = written.InOut (place 1 20); type_name = simple (word (codes "Integer") 1 27) }
 
 -- `X from X`
 abbrev pub relation_written : DerivesItem
@@ -69,15 +69,15 @@ relation_written = record { exports = exports.Names (x_written 2 13 ∷ []); imp
 
 -- `Integer'Last`
 abbrev pub last_written : Expr
-last_written = written_expr.Name (Attribute (word (codes "Integer") 3 13) (word (codes "Last") 3 21))
+last_written = value_named (attribute (word (codes "Integer") 3 13) (word (codes "Last") 3 21))
 
 -- `X < Integer'Last`
 abbrev pub below_written : Expr
-below_written = written_expr.Infix op.Less (place 3 11) (written_expr.Name (x_written 3 9)) last_written
+below_written = written_expr.Infix op.Less (place 3 11) (value_named (x_written 3 9)) last_written
 
 -- `X + 1`, whose X is at this line and column
 abbrev pub successor_written : ℕ → ℕ → Expr
-successor_written line column = written_expr.Infix op.Add (place line (column + 2)) (written_expr.Name (x_written line column)) (written_expr.Number (pos 1) (place line (column + 4)))
+successor_written line column = written_expr.Infix op.Add (place line (column + 2)) (value_named (x_written line column)) (written_expr.Number (pos 1) (place line (column + 4)))
 
 -- `X := X + 1`
 abbrev pub step_written : Stmt
@@ -118,7 +118,7 @@ x_at line column = record { name = word (codes "X") line column; entity = Some (
 
 -- `X` where a variable is needed
 abbrev pub x_named : ℕ → ℕ → Reference
-x_named line column = record { root = x_at line column; way = [] }
+x_named line column = reference_to (x_at line column)
 
 -- `Integer`, at its line and column
 abbrev pub integer_at : ℕ → ℕ → CoreName
@@ -138,7 +138,7 @@ inc_declared = record { name = word (codes "Inc") 1 11; entity = entity.Subprogr
 
 -- `X : in out Integer`
 abbrev pub formal : CoreParam
-formal = record { names = x_declared ∷ []; mode = written.InOut (place 1 20); type_name = record { root = integer_at 1 27; way = [] } }
+formal = record { names = x_declared ∷ []; mode = written.InOut (place 1 20); type_name = reference_to (integer_at 1 27) }
 
 -- `X from X`
 abbrev pub relation : CoreDerivesItem
@@ -158,7 +158,7 @@ successor line column = expr.Infix op.Add (place line (column + 2)) (expr.Name (
 
 -- `X := X + 1`
 abbrev pub step : CoreStmt
-step = stmt.Assignment (target_at (x_named 6 4)) (successor 6 9)
+step = stmt.Assignment (target_to (x_at 6 4)) (successor 6 9)
 
 -- the procedure, with its annotations
 abbrev pub inc : Sub

@@ -1,4 +1,5 @@
 pub mod Answers
+pub mod Names
 pub mod Types
 pub mod Example
 pub mod Branches
@@ -34,6 +35,7 @@ pub mod Weakenings
 pub mod CompositeExamples
 pub mod PartExamples
 pub mod PartPrograms
+pub mod PartNames
 pub mod LinearExamples
 pub mod StepExamples
 pub mod ScriptExamples

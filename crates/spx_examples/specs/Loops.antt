@@ -8,7 +8,6 @@ use Rattle.spx_core.specs.declared.expression.CoreExpr.{CoreExpr}
 use Rattle.spx_core.specs.declared.expression.CoreExpr.TheVariants as expr
 use Rattle.spx_core.specs.declared.name.CoreName.{CoreName}
 use Rattle.spx_core.specs.Commands.{Command, Skip, Set, Then, Choose, Assertion, Repeat, Tested}
-use Rattle.spx_core.specs.Resolved.{target_at}
 use Rattle.spx_term.specs.declared.condition.CondKind.TheVariants as kind
 use Rattle.spx_term.specs.declared.term.Term.{Term}
 use Rattle.spx_term.specs.declared.term.Term.TheVariants as term
@@ -17,8 +16,8 @@ use Rattle.spx_meaning.specs.Frames.{around}
 use Rattle.spx_meaning.specs.Runs.{Outcome, run}
 use Rattle.spx_formula.specs.Terms.{now}
 use Rattle.spx_examples.specs.Assertions.{is_positive, lies_in_integer, now_is_positive}
-use Rattle.spx_examples.specs.Flag.{named}
-use Rattle.spx_examples.specs.Increment.{place, word, x, x_at, x_named, successor, known_entry}
+use Rattle.spx_examples.specs.Increment.{place, word, x, x_at, successor, known_entry}
+use Rattle.spx_examples.specs.Names.{target_to}
 use Rattle.spx_examples.specs.Next.{below_hundred, forked, next_now, sum_checks, x_now}
 use Rattle.spx_examples.specs.Operators.{true_at}
 use Rattle.spx_examples.specs.Refused.{inc_without_pre, increment_without_pre}
@@ -33,7 +32,7 @@ only statement = Then statement Skip
 
 -- `X := X + 1`, in this line
 abbrev pub step_in : ℕ → Command
-step_in line = Set (target_at (x_named line 7)) (successor line 12)
+step_in line = Set (target_to (x_at line 7)) (successor line 12)
 
 -- `while X < 100 loop X := X + 1; end loop`
 abbrev pub counting : Command
@@ -41,7 +40,7 @@ counting = Repeat (Tested (place 5 4) below_hundred) (only (step_in 6))
 
 -- the same, `X := 98`, and the same again
 abbrev pub counting_again : Command
-counting_again = Then counting (Then (Set (target_at (x_named 8 4)) (expr.Number (pos 98) (place 8 9))) (only counting))
+counting_again = Then counting (Then (Set (target_to (x_at 8 4)) (expr.Number (pos 98) (place 8 9))) (only counting))
 
 -- `while True loop null; end loop`
 abbrev pub endless : Command
@@ -63,7 +62,7 @@ y_is_positive = expr.Infix op.Greater (place 5 12) (expr.Name (y_at 5 10)) (expr
 
 -- `X := 1`
 abbrev pub set_x : Command
-set_x = Set (target_at (x_named 6 7)) (expr.Number (pos 1) (place 6 12))
+set_x = Set (target_to (x_at 6 7)) (expr.Number (pos 1) (place 6 12))
 
 -- `while Y > 0 loop X := 1; end loop`
 abbrev pub deciding : Command
@@ -71,15 +70,15 @@ deciding = Repeat (Tested (place 5 4) y_is_positive) (only set_x)
 
 -- the same, and then `Y := X`
 abbrev pub copying_after : Command
-copying_after = Then deciding (only (Set (target_at (named (y_at 8 4))) (expr.Name (x_at 8 9))))
+copying_after = Then deciding (only (Set (target_to (y_at 8 4)) (expr.Name (x_at 8 9))))
 
 -- the same with `Y := X` as the second statement of the body
 abbrev pub copying_in : Command
-copying_in = Repeat (Tested (place 5 4) y_is_positive) (Then set_x (only (Set (target_at (named (y_at 7 7))) (expr.Name (x_at 7 12)))))
+copying_in = Repeat (Tested (place 5 4) y_is_positive) (Then set_x (only (Set (target_to (y_at 7 7)) (expr.Name (x_at 7 12)))))
 
 -- `X := Y; Y := Z`
 abbrev pub passing_on : Command
-passing_on = Then (Set (target_at (x_named 6 7)) (expr.Name (y_at 6 12))) (only (Set (target_at (named (y_at 7 7))) (expr.Name (z_at 7 12))))
+passing_on = Then (Set (target_to (x_at 6 7)) (expr.Name (y_at 6 12))) (only (Set (target_to (y_at 7 7)) (expr.Name (z_at 7 12))))
 
 -- `while True loop X := Y; Y := Z; end loop`
 abbrev pub passing_turn_by_turn : Command

@@ -13,7 +13,6 @@ use Rattle.std.specs.Prelude.{ℕ, ◌+◌, ℤ, pos, List, [], ◌∷◌, Optio
 use Rattle.spx_tree.specs.declared.annotation.Exports.TheVariants as exports
 use Rattle.spx_tree.specs.declared.declaration.Decl.TheVariants.{Variables}
 use Rattle.spx_tree.specs.declared.expression.Name.{Name}
-use Rattle.spx_tree.specs.declared.expression.Name.TheVariants.{Simple, Attribute}
 use Rattle.spx_tree.specs.declared.expression.InfixOp.{InfixOp}
 use Rattle.spx_tree.specs.declared.expression.InfixOp.TheVariants as op
 use Rattle.spx_tree.specs.declared.expression.PrefixOp.TheVariants.{Minus}
@@ -28,6 +27,7 @@ use Rattle.spx_tree.specs.declared.subprogram.Unit.TheVariants as unit
 use Rattle.spx_core.specs.declared.rule.Breach.{Breach}
 use Rattle.spx_core.specs.declared.rule.RuleName.{RuleName}
 use Rattle.spx_examples.specs.Increment.{place, word, x_written, formal_written, successor_written, inc_written}
+use Rattle.spx_examples.specs.Names.{attribute, simple, value_named}
 
 -- this rule is broken, at this line and column
 abbrev pub breach : RuleName → ℕ → ℕ → Option Breach
@@ -40,11 +40,11 @@ alone s = unit.Subprogram s ∷ []
 -- ---- parts of line 6, at their columns
 
 abbrev pub name_at : List ℕ → ℕ → Expr
-name_at text column = written_expr.Name (Simple (word text 6 column))
+name_at text column = value_named (simple (word text 6 column))
 
 -- a prefix, and a designator after `'`
 abbrev pub attribute_at : (prefix : List ℕ) (prefix_column : ℕ) (designator : List ℕ) (column : ℕ) → Expr
-attribute_at prefix prefix_column designator column = written_expr.Name (Attribute (word prefix 6 prefix_column) (word designator 6 column))
+attribute_at prefix prefix_column designator column = value_named (attribute (word prefix 6 prefix_column) (word designator 6 column))
 
 abbrev pub number_at : ℤ → ℕ → Expr
 number_at value column = written_expr.Number value (place 6 column)
@@ -89,16 +89,16 @@ ending s text = record s { end_name = Some (word text 7 5) }
 
 -- a local with this type name
 abbrev pub with_local : Subprogram → (name type_name : List ℕ) → (type_column : ℕ) → Subprogram
-with_local s name type_name type_column = record s { declarations = Variables (word name 4 4 ∷ []) (Simple (word type_name 4 type_column)) None ∷ [] }
+with_local s name type_name type_column = record s { declarations = Variables (word name 4 4 ∷ []) (simple (word type_name 4 type_column)) None ∷ [] }
 
 -- the precondition that a name is true
 abbrev pub with_pre : Subprogram → List ℕ → Subprogram
-with_pre s name = record s { pre = Some (record { place = place 3 5; condition = written_expr.Name (Simple (word name 3 9)) }) }
+with_pre s name = record s { pre = Some (record { place = place 3 5; condition = value_named (simple (word name 3 9)) }) }
 
 -- the relation of one export, whose name has one letter, and one import
 abbrev pub with_relation : Subprogram → (export import : List ℕ) → Subprogram
 with_relation s export import =
-    record s { derives = Some (record { place = place 2 5; items = record { exports = exports.Names (Simple (word export 2 13) ∷ []); imports = record { itself = None; names = Simple (word import 2 20) ∷ [] } } ∷ [] }) }
+    record s { derives = Some (record { place = place 2 5; items = record { exports = exports.Names (simple (word export 2 13) ∷ []); imports = record { itself = None; names = simple (word import 2 20) ∷ [] } } ∷ [] }) }
 
 -- a formal part of one parameter
 abbrev pub with_formal : Subprogram → Param → Subprogram
@@ -106,11 +106,11 @@ with_formal s param = record s { formal_part = Some (record { place = place 1 15
 
 -- `X, X : in out Integer`
 abbrev pub twice_written : Param
-twice_written = record formal_written { names = word (codes "X") 1 16 ∷ word (codes "X") 1 19 ∷ []; type_name = Simple (word (codes "Integer") 1 30) }
+twice_written = record formal_written { names = word (codes "X") 1 16 ∷ word (codes "X") 1 19 ∷ []; type_name = simple (word (codes "Integer") 1 30) }
 
 -- `X : in out Inc`
 abbrev pub of_own_name : Param
-of_own_name = record formal_written { type_name = Simple (word (codes "Inc") 1 27) }
+of_own_name = record formal_written { type_name = simple (word (codes "Inc") 1 27) }
 
 -- `procedure` name `is begin null; end Inc;`, in line 8, where the name has three letters
 abbrev pub second_written : List ℕ → Subprogram
@@ -131,7 +131,7 @@ second_written name = record {
 
 -- `Y := Z;`, and `end Dec;`
 abbrev pub broken_body : Subprogram
-broken_body = ending (with_target (Simple (word (codes "Y") 6 4)) (name_at (codes "Z") 9)) (codes "Dec")
+broken_body = ending (with_target (simple (word (codes "Y") 6 4)) (name_at (codes "Z") 9)) (codes "Dec")
 
 -- `T : T;` before them
 abbrev pub broken_local : Subprogram
@@ -139,7 +139,7 @@ broken_local = with_local broken_body (codes "T") (codes "T") 8
 
 -- `post Y;` before, in line 3 too
 abbrev pub broken_post : Subprogram
-broken_post = record broken_local { post = Some (record { place = place 3 12; condition = written_expr.Name (Simple (word (codes "Y") 3 17)) }) }
+broken_post = record broken_local { post = Some (record { place = place 3 12; condition = value_named (simple (word (codes "Y") 3 17)) }) }
 
 -- `pre Y;` before
 abbrev pub broken_pre : Subprogram

@@ -12,7 +12,6 @@ use Rattle.std.specs.Prelude.{ℕ, ◌+◌, pos, false, List, [], ◌∷◌, ◌
 use Rattle.spx_tree.specs.declared.annotation.DerivesItem.{DerivesItem}
 use Rattle.spx_tree.specs.declared.annotation.Exports.TheVariants as exports
 use Rattle.spx_tree.specs.declared.expression.InfixOp.TheVariants as op
-use Rattle.spx_tree.specs.declared.expression.Name.TheVariants.{Simple}
 use Rattle.spx_tree.specs.declared.expression.Expr.{Expr}
 use Rattle.spx_tree.specs.declared.expression.Expr.TheVariants as written_expr
 use Rattle.spx_tree.specs.declared.statement.Arm.{Arm}
@@ -35,7 +34,6 @@ use Rattle.spx_core.specs.declared.dependency.CoreDerivesItem.{CoreDerivesItem}
 use Rattle.spx_core.specs.declared.subprogram.CoreParam.{CoreParam}
 use Rattle.spx_core.specs.declared.subprogram.Sub.{Sub}
 use Rattle.spx_core.specs.Effects.{Effect, nothing, assign, next, choose}
-use Rattle.spx_core.specs.Resolved.{target_at}
 use Rattle.spx_term.specs.declared.condition.CondKind.TheVariants.{Overflow, Range}
 use Rattle.spx_term.specs.declared.condition.Condition.{Condition}
 use Rattle.spx_term.specs.declared.path.PathStep.{PathStep}
@@ -48,12 +46,13 @@ use Rattle.spx_term.specs.Steps.{Tree, Assume, Split}
 use Rattle.spx_formula.specs.Terms.{now, now_term}
 use Rattle.spx_examples.specs.Branches.{arm}
 use Rattle.spx_examples.specs.Increment.{place, word, x_written, successor_written, x, object, x_at, x_named, integer_at, successor, inc_id, increment, entry_x, at_least_first, at_most_last, known_below, sum_goals}
+use Rattle.spx_examples.specs.Names.{reference_to, simple, target_to, value_named}
 
 -- ---- the text
 
 -- `X : in out Integer`
 abbrev pub formal_written : Param
-formal_written = record { names = word (codes "X") 1 17 ∷ []; mode = written.InOut (place 1 21); type_name = Simple (word (codes "Integer") 1 28) }
+formal_written = record { names = word (codes "X") 1 17 ∷ []; mode = written.InOut (place 1 21); type_name = simple (word (codes "Integer") 1 28) }
 
 -- `X from X`
 abbrev pub relation_written : DerivesItem
@@ -61,7 +60,7 @@ relation_written = record { exports = exports.Names (x_written 2 13 ∷ []); imp
 
 -- `X < 100`, whose X is at this line and column
 abbrev pub below_written : ℕ → ℕ → Expr
-below_written line column = written_expr.Infix op.Less (place line (column + 2)) (written_expr.Name (x_written line column)) (written_expr.Number (pos 100) (place line (column + 4)))
+below_written line column = written_expr.Infix op.Less (place line (column + 2)) (value_named (x_written line column)) (written_expr.Number (pos 100) (place line (column + 4)))
 
 -- `X := X + 1`
 abbrev pub step_written : Stmt
@@ -106,7 +105,7 @@ next_declared = record { name = word (codes "Next") 1 11; entity = entity.Subpro
 
 -- `X : in out Integer`
 abbrev pub formal : CoreParam
-formal = record { names = x_declared ∷ []; mode = written.InOut (place 1 21); type_name = record { root = integer_at 1 28; way = [] } }
+formal = record { names = x_declared ∷ []; mode = written.InOut (place 1 21); type_name = reference_to (integer_at 1 28) }
 
 -- `X from X`
 abbrev pub relation : CoreDerivesItem
@@ -122,7 +121,7 @@ below_hundred = below_hundred_at 5 7
 
 -- `X := X + 1`
 abbrev pub step : CoreStmt
-step = stmt.Assignment (target_at (x_named 6 7)) (successor 6 12)
+step = stmt.Assignment (target_to (x_at 6 7)) (successor 6 12)
 
 -- `if X < 100 then X := X + 1; end if`
 abbrev pub branch : CoreStmt

@@ -1,5 +1,5 @@
 -- `A (I)` and `A (I) := E`, where A has an integer at each of the indexes 1, 2 and 3, and a way to a field of a record in an array.
-use Rattle.std.specs.Prelude.{ℕ, pos, List, [], ◌∷◌, Option, Some, codes}
+use Rattle.std.specs.Prelude.{ℕ, pos, List, [], ◌∷◌, Option, Some, None, codes}
 use Rattle.spx_core.specs.declared.entity.TheConstants.{INTEGER}
 use Rattle.spx_core.specs.declared.entity.Class.TheVariants as class
 use Rattle.spx_core.specs.declared.entity.Entity.TheVariants as entity
@@ -77,7 +77,7 @@ element_of_a = element_at (a_at 4) (Name (i_at 7))
 
 -- the same as a target
 abbrev pub to_element : Target
-to_element = record { root = a_at 4; way = Index (place 6 6) (Name (i_at 7)) indexing ∷ []; rest = [] }
+to_element = record { root = a_at 4; way = Index (place 6 6) (Name (i_at 7)) indexing ∷ []; faulty = None }
 
 -- `A (I) := E`
 abbrev pub setting : Command
@@ -114,7 +114,7 @@ field_of_r = Selected (Name (r_at 4)) (word (codes "G") 6 6) selection
 
 -- `R.G := E`
 abbrev pub setting_field : Command
-setting_field = Set (record { root = r_at 4; way = Field (word (codes "G") 6 6) selection ∷ []; rest = [] }) (Name (e_at 11))
+setting_field = Set (record { root = r_at 4; way = Field (word (codes "G") 6 6) selection ∷ []; faulty = None }) (Name (e_at 11))
 
 -- ---- values
 

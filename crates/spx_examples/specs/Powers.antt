@@ -2,17 +2,15 @@
 -- Each expression stands in line 1, each part of it at the column that is given, and `k ** N` has its operator 2 columns after k, and N 3 columns after that.
 use Rattle.std.specs.Prelude.{◌≡◌, ℕ, ◌+◌, ℤ, pos, false, List, [], ◌∷◌, Some, None, codes}
 use Rattle.spx_tree.specs.declared.expression.Expr.{Expr}
-use Rattle.spx_tree.specs.declared.expression.FunctionForm.{FunctionForm}
+use Rattle.spx_core.specs.declared.function.FunctionForm.{FunctionForm}
 use Rattle.spx_tree.specs.declared.expression.InfixOp.{InfixOp}
 use Rattle.spx_tree.specs.declared.expression.InfixOp.TheVariants as op
 use Rattle.spx_tree.specs.declared.expression.MemberOp.TheVariants.{In}
 use Rattle.spx_tree.specs.declared.expression.Name.{Name}
-use Rattle.spx_tree.specs.declared.expression.Name.TheVariants.{Simple}
 use Rattle.spx_tree.specs.declared.expression.PrefixOp.TheVariants.{Minus}
 use Rattle.spx_tree.specs.declared.statement.Closing.{Closing}
 use Rattle.spx_tree.specs.declared.statement.Count.{Count}
 use Rattle.spx_tree.specs.declared.statement.Stmt.{Stmt}
-use Rattle.spx_tree.specs.Written.{operation}
 use Rattle.spx_core.specs.declared.entity.Entity.{Entity}
 use Rattle.spx_core.specs.declared.entity.Entity.TheVariants as entity
 use Rattle.spx_core.specs.declared.entity.Subtype.{Subtype}
@@ -27,7 +25,7 @@ use Rattle.spx_core.specs.declared.rule.ExprType.{ExprType}
 use Rattle.spx_core.specs.declared.statement.CoreStmt.{CoreStmt}
 use Rattle.spx_core.specs.Contexts.{in_context}
 use Rattle.spx_core.specs.Regions.{Regions}
-use Rattle.spx_core.specs.Resolved.{resolved_stmt}
+use Rattle.spx_core.specs.Resolved.{Scene, in_code, resolved_stmt, standard_types}
 use Rattle.spx_core.specs.Shapes.{applied_of, implicit_of, in_range_of, in_type_of, infix_of, parenthesized_of, prefix_of}
 use Rattle.spx_term.specs.declared.term.Term.{Term}
 use Rattle.spx_term.specs.declared.term.Term.TheVariants as term
@@ -36,6 +34,7 @@ use Rattle.spx_formula.specs.Terms.{now_term}
 use Rattle.spx_examples.specs.Declarations.{name_in, number_in, operation_in, part_of, wide}
 use Rattle.spx_examples.specs.Flag.{named}
 use Rattle.spx_examples.specs.Increment.{place, word}
+use Rattle.spx_examples.specs.Names.{operation, simple}
 use Rattle.spx_examples.specs.Operators.{a, b, true_at}
 
 -- ---- parts
@@ -159,7 +158,7 @@ ComparedAsInteger o = Becomes (operation_at o 8 (power (pos 2) 1) (number_at (po
 
 -- a name, and `k ** N`
 abbrev pub name_written : List ℕ → ℕ → Name
-name_written text column = Simple (word text 1 column)
+name_written text column = simple (word text 1 column)
 
 abbrev pub power_written : ℤ → ℕ → Expr
 power_written k column = operation op.Power (place 1 (column + 2)) (number_in k 1 column) (name_in (codes "N") 1 (column + 5))
@@ -189,9 +188,13 @@ scope =
     ∷ [])
     ∷ []
 
+-- it stands in code, after the predefined types alone
+abbrev pub scene : Scene
+scene = in_code standard_types
+
 -- the statement is resolved to this there
 abbrev pub Resolves : Stmt → CoreStmt → Type 0
-Resolves written s = resolved_stmt [] scope written [] 0 ≡ (s, 0)
+Resolves written s = resolved_stmt scene.types [] scope written [] 0 ≡ (s, 0)
 
 -- `2147483648 ** X`, at its line and column, which breaks rule N12 as an `Integer`
 abbrev pub past_integer : ℕ → ℕ → Expr

@@ -4,12 +4,10 @@ use Rattle.std.specs.Prelude.{◌≡◌, ℕ, ◌+◌, ℤ, pos, List, [], ◌�
 use Rattle.spx_tree.specs.declared.declaration.Decl.{Decl}
 use Rattle.spx_tree.specs.declared.declaration.Decl.TheVariants as written_decl
 use Rattle.spx_tree.specs.declared.expression.Expr.{Expr}
-use Rattle.spx_tree.specs.declared.expression.FunctionForm.TheVariants as form
-use Rattle.spx_tree.specs.declared.expression.Name.TheVariants.{Simple}
+use Rattle.spx_core.specs.declared.function.FunctionForm.TheVariants as form
 use Rattle.spx_tree.specs.declared.statement.Alternative.{Alternative}
 use Rattle.spx_tree.specs.declared.statement.Choice.{Choice}
 use Rattle.spx_tree.specs.declared.statement.Stmt.TheVariants as written_stmt
-use Rattle.spx_tree.specs.Written.{applied}
 use Rattle.spx_core.specs.declared.entity.Entity.TheVariants as entity
 use Rattle.spx_core.specs.declared.entity.Subtype.{Subtype}
 use Rattle.spx_core.specs.declared.entity.VarKind.TheVariants.{Initialized}
@@ -23,34 +21,33 @@ use Rattle.spx_core.specs.declared.statement.CoreStmt.TheVariants as stmt
 use Rattle.spx_core.specs.declared.subprogram.Sub.{Sub}
 use Rattle.spx_core.specs.Commands.{commands}
 use Rattle.spx_core.specs.Statements.{first_name_breach}
-use Rattle.spx_core.specs.Resolved.{target_at}
 use Rattle.spx_meaning.specs.Frames.{around}
 use Rattle.spx_meaning.specs.Runs.{Outcome, run}
 use Rattle.spx_meaning.specs.Stores.{Store}
 use Rattle.spx_examples.specs.Declarations.{color, color_written, green, local, name_in, narrowed_in, program_of, red, row, standing_for, stating, variable_in}
-use Rattle.spx_examples.specs.Flag.{named}
 use Rattle.spx_examples.specs.Increment.{increment, place, word}
 use Rattle.spx_examples.specs.NameRules.{alone}
+use Rattle.spx_examples.specs.Names.{conversion, function, qualified, simple, target_to}
 use Rattle.spx_examples.specs.Operators.{a_at, number}
 
 -- ---- what is written
 
 -- `name (operand)`
 abbrev pub conversion_in : List ℕ → (operand : ℕ → ℕ → Expr) → ℕ → ℕ → Expr
-conversion_in name operand line column = applied (record { name = word name line column; form = form.Simple }) (place line (column + 9)) (operand line (column + 10))
+conversion_in name operand line column = conversion (word name line column) (place line (column + 9)) (operand line (column + 10))
 
 -- `name'designator (operand)`
 abbrev pub function_in : (name designator : List ℕ) → (operand : ℕ → ℕ → Expr) → ℕ → ℕ → Expr
 function_in name designator operand line column =
-    applied (record { name = word name line column; form = form.Attribute (word designator line (column + 8)) }) (place line (column + 9)) (operand line (column + 10))
+    function (word name line column) (word designator line (column + 8)) (place line (column + 9)) (operand line (column + 10))
 
 -- `name'(operand)`
 abbrev pub qualified_in : List ℕ → (operand : ℕ → ℕ → Expr) → ℕ → ℕ → Expr
-qualified_in name operand line column = applied (record { name = word name line column; form = form.Qualified }) (place line (column + 9)) (operand line (column + 10))
+qualified_in name operand line column = qualified (word name line column) (place line (column + 9)) (operand line (column + 10))
 
 -- `name : type_name := value`
 abbrev pub initialized_in : ℕ → (name type_name : List ℕ) → (value : ℕ → ℕ → Expr) → Decl
-initialized_in line name type_name value = written_decl.Variables (word name line 4 ∷ []) (Simple (word type_name line 20)) (Some (value line 30))
+initialized_in line name type_name value = written_decl.Variables (word name line 4 ∷ []) (simple (word type_name line 20)) (Some (value line 30))
 
 -- names as choices, the first at this column
 abbrev pub names_in : ℕ → ℕ → List (List ℕ) → List Choice
@@ -104,7 +101,7 @@ choices_to m n = record { low = literal_at m; high = Some (literal_at n); span =
 
 -- `A := ` the literal
 abbrev pub giving : ℤ → List CoreStmt
-giving n = stmt.Assignment (target_at (named (a_at color 1))) (literal_at n) ∷ []
+giving n = stmt.Assignment (target_to (a_at color 1)) (literal_at n) ∷ []
 
 -- `case A`, with `A := Blue` for the first choices and `A := Green` for the second
 abbrev pub choosing : (first second : Option (List CoreChoice)) → CoreStmt

@@ -33,9 +33,9 @@ use Rattle.spx_core.specs.declared.dependency.CoreDerivesItem.{CoreDerivesItem}
 use Rattle.spx_core.specs.declared.subprogram.CoreParam.{CoreParam}
 use Rattle.spx_core.specs.declared.subprogram.CorePredicate.{CorePredicate}
 use Rattle.spx_core.specs.declared.subprogram.Sub.{Sub}
-use Rattle.spx_core.specs.Resolved.{target_at}
 use Rattle.spx_examples.specs.Branches.{arm}
 use Rattle.spx_examples.specs.Increment.{place, word, x, integer_at}
+use Rattle.spx_examples.specs.Names.{target_to}
 use Rattle.spx_examples.specs.Operators.{true_at}
 use Rattle.spx_examples.specs.Flag.{y, formal_of, x_at, named, one, closing, flag, flag_program}
 
@@ -80,7 +80,7 @@ requiring_true sub = record sub { pre = Some (record { place = place 3 5; condit
 
 -- `X := 1`, in line 6
 abbrev pub setting_x : CoreStmt
-setting_x = stmt.Assignment (target_at (named (x_at 6 7))) one
+setting_x = stmt.Assignment (target_to (x_at 6 7)) one
 
 -- `if` this, `then X := 1; end if`
 abbrev pub branch_of : CoreExpr → CoreStmt

@@ -17,11 +17,11 @@ use Rattle.spx_core.specs.declared.statement.CoreDecl.TheVariants.{Variables}
 use Rattle.spx_core.specs.declared.statement.CoreStmt.{CoreStmt}
 use Rattle.spx_core.specs.declared.statement.CoreStmt.TheVariants as stmt
 use Rattle.spx_core.specs.declared.subprogram.Sub.{Sub}
-use Rattle.spx_core.specs.Resolved.{target_at}
 use Rattle.spx_term.specs.declared.value.Value.{Value}
 use Rattle.spx_term.specs.declared.value.Value.TheVariants as value
 use Rattle.spx_examples.specs.Branches.{arm}
-use Rattle.spx_examples.specs.Increment.{place, word, x, x_at, x_named, x_declared, integer_at, successor, formal, increment}
+use Rattle.spx_examples.specs.Increment.{place, word, x, x_at, x_declared, integer_at, successor, formal, increment}
+use Rattle.spx_examples.specs.Names.{target_to}
 use Rattle.spx_examples.specs.Refused.{inc_without_pre}
 use Rattle.spx_examples.specs.Flag.{y, formal_of, named, flag, flag_program}
 use Rattle.spx_examples.specs.Flag as flags
@@ -67,7 +67,7 @@ only_null = stmt.Null (place 6 4) ∷ []
 
 -- `X := value`
 abbrev pub giving : CoreExpr → List CoreStmt
-giving value = stmt.Assignment (target_at (x_named 6 4)) value ∷ []
+giving value = stmt.Assignment (target_to (x_at 6 4)) value ∷ []
 
 -- `Y`
 abbrev pub the_local : CoreExpr
@@ -91,7 +91,7 @@ sum_and_local = expr.Infix op.Add (place 6 17) (expr.Parenthesized (place 6 9) (
 
 -- `X := X + 1; X := X + 1`
 abbrev pub twice : List CoreStmt
-twice = stmt.Assignment (target_at (x_named 6 4)) (successor 6 9) ∷ stmt.Assignment (target_at (x_named 6 16)) (successor 6 21) ∷ []
+twice = stmt.Assignment (target_to (x_at 6 4)) (successor 6 9) ∷ stmt.Assignment (target_to (x_at 6 16)) (successor 6 21) ∷ []
 
 -- `Y > X`
 abbrev pub local_above : CoreExpr
@@ -133,7 +133,7 @@ out_program statements = record increment { vars = record { name = codes "X"; ki
 
 -- `X := X`
 abbrev pub itself : List CoreStmt
-itself = stmt.Assignment (target_at (named (out_x_at 6 4))) (expr.Name (out_x_at 6 9)) ∷ []
+itself = stmt.Assignment (target_to (out_x_at 6 4)) (expr.Name (out_x_at 6 9)) ∷ []
 
 -- ---- no dependency relation, so that X is no export
 
@@ -176,7 +176,7 @@ abbrev pub natural_sub : Sub
 natural_sub = record inc_without_pre {
   formal_part = Some (record { place = place 1 15; params = record formal { names = record x_declared { entity = natural_x } ∷ []; type_name = natural_named } ∷ [] });
   derives = Some (record { place = place 2 5; items = record { null = None; exports = named (natural_x_at 2 13) ∷ []; itself = None; imports = named (natural_x_at 2 20) ∷ [] } ∷ [] });
-  statements = stmt.Assignment (target_at (named (natural_x_at 6 4))) natural_negated ∷ [];
+  statements = stmt.Assignment (target_to (natural_x_at 6 4)) natural_negated ∷ [];
 }
 
 -- its program

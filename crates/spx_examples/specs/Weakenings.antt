@@ -15,7 +15,7 @@ use Rattle.spx_core.specs.declared.entity.VarId.{VarId}
 use Rattle.spx_core.specs.declared.entity.VarKind.TheVariants.{Formal, Local}
 use Rattle.spx_core.specs.declared.expression.CoreExpr.{CoreExpr}
 use Rattle.spx_core.specs.declared.expression.CoreExpr.TheVariants as expr
-use Rattle.spx_tree.specs.declared.expression.FunctionForm.TheVariants as form
+use Rattle.spx_core.specs.declared.function.FunctionForm.TheVariants as form
 use Rattle.spx_core.specs.declared.name.CoreName.{CoreName}
 use Rattle.spx_core.specs.declared.name.Reference.{Reference}
 use Rattle.spx_core.specs.declared.program.CoreUnit.TheVariants as core_unit
@@ -27,13 +27,13 @@ use Rattle.spx_core.specs.declared.subprogram.Sub.{Sub}
 use Rattle.spx_core.specs.Commands.{Command, Skip, Set, Then, Choose, Select, When, Last, Assertion, Repeat, Leave, Tested, Endless}
 use Rattle.spx_core.specs.Dependency.{derives, exports}
 use Rattle.spx_core.specs.Formals.{is_formal}
-use Rattle.spx_core.specs.Resolved.{target_at}
 use Rattle.spx_term.specs.declared.term.Name.{Name}
 use Rattle.spx_term.specs.declared.term.Term.{Term}
 use Rattle.spx_term.specs.declared.term.Term.TheVariants as term
 use Rattle.spx_term.specs.declared.term.TermOp.TheVariants.{GreaterOrEqual}
 use Rattle.spx_term.specs.declared.value.Value.{Value}
 use Rattle.spx_term.specs.Meaning.{as_number, Holds, Respects, Valuation}
+use Rattle.spx_examples.specs.Names.{target_to}
 use Rattle.spx_examples.specs.Types.{no_composites}
 use Rattle.spx_meaning.specs.Bits.{computed, is_too_large}
 use Rattle.spx_meaning.specs.Frames.{Frame, around}
@@ -261,7 +261,7 @@ with_other first = record increment {
 
 -- The first procedure with the statement `name := X`. No text is resolved to one that names a variable of the other procedure there.
 abbrev pub reaching : CoreName → Sub
-reaching name = record inc_without_pre { statements = stmt.Assignment (target_at (named name)) (expr.Name (x_at 6 9)) ∷ [] }
+reaching name = record inc_without_pre { statements = stmt.Assignment (target_to name) (expr.Name (x_at 6 9)) ∷ [] }
 
 -- the values of X, Y and Z
 abbrev pub all_of : Option Value → Option Value → Option Value → Store
@@ -317,7 +317,7 @@ passing_without_end = Repeat Endless passing_on
 
 -- `X := Y; Y := I`
 abbrev pub passing_parameter : Command
-passing_parameter = Then (Set (target_at (x_named 6 7)) (expr.Name (y_at 6 12))) (only (Set (target_at (named (y_at 7 7))) (expr.Name (i_at 7 12))))
+passing_parameter = Then (Set (target_to (x_at 6 7)) (expr.Name (y_at 6 12))) (only (Set (target_to (y_at 7 7)) (expr.Name (i_at 7 12))))
 
 -- `for I in Positive range 1 .. X loop X := Y; Y := I; end loop`
 abbrev pub passing_up_to_x : Command

@@ -31,6 +31,7 @@ ghost use Rattle.spx_examples.specs.Flag.{x_at as in_flag, y_at, y, flag, flag_p
 ghost use Rattle.spx_examples.specs.Found.{Finds, nothing_found};
 ghost use Rattle.spx_examples.specs.Increment.{place, word, x, x_at, x_written, entry_x};
 ghost use Rattle.spx_examples.specs.NameRules.{breach, alone, assigning, stepping};
+ghost use Rattle.spx_examples.specs.Names.{entry_named, value_named};
 ghost use Rattle.spx_examples.specs.Next.{x_now};
 ghost use Rattle.spx_examples.specs.Operators.{true_at};
 ghost use Rattle.spx_examples.specs.VariableRules.{only};
@@ -104,7 +105,7 @@ pub fn an_entry_value_out_of_place_breaks_n18()
     ensures post { first_name_breach (alone (ensuring stepping (entry_written (codes "X") 3 10))) ≡ None }
     ensures check { first_name_breach (alone (looking stepping (entry_written (codes "X") 6 14))) ≡ None }
     ensures pre { first_name_breach (alone (requiring stepping (entry_written (codes "X") 3 9))) ≡ breach N18 3 9 }
-    ensures code { first_name_breach (alone (assigning (written_expr.Entry (word (codes "X") 6 9)))) ≡ breach N18 6 9 }
+    ensures code { first_name_breach (alone (assigning (entry_named (word (codes "X") 6 9)))) ≡ breach N18 6 9 }
     ensures import { first_name_breach (alone (ensuring two_formals (entry_written (codes "X") 3 10))) ≡ breach N18 3 10 }
     ensures export { first_name_breach (alone (ensuring two_formals (entry_written (codes "Y") 3 10))) ≡ breach N18 3 10 }
     ensures import_in_check { first_name_breach (alone (looking two_formals (entry_written (codes "X") 6 14))) ≡ breach N18 6 14 }
@@ -133,10 +134,10 @@ pub fn an_entry_value_is_of_the_type_of_its_variable()
 /// A postcondition and a `check` are conditions, and so are both sides of `->`. `X` is a number.
 #[tactic(auto, unfolding(spx_core::specs::Statements::first_name_breach, spx_core::specs::Regions::standard))]
 pub fn an_assertion_is_a_condition()
-    ensures post { first_name_breach (alone (ensuring stepping (written_expr.Name (x_written 3 10)))) ≡ breach N10 3 10 }
-    ensures check { first_name_breach (alone (looking stepping (written_expr.Name (x_written 6 14)))) ≡ breach N10 6 14 }
-    ensures left { first_name_breach (alone (ensuring stepping (implying (written_expr.Name (x_written 3 10)) positive_written))) ≡ breach N10 3 16 }
-    ensures right { first_name_breach (alone (looking stepping (implying positive_written (written_expr.Name (x_written 3 19))))) ≡ breach N10 3 16 }
+    ensures post { first_name_breach (alone (ensuring stepping (value_named (x_written 3 10)))) ≡ breach N10 3 10 }
+    ensures check { first_name_breach (alone (looking stepping (value_named (x_written 6 14)))) ≡ breach N10 6 14 }
+    ensures left { first_name_breach (alone (ensuring stepping (implying (value_named (x_written 3 10)) positive_written))) ≡ breach N10 3 16 }
+    ensures right { first_name_breach (alone (looking stepping (implying positive_written (value_named (x_written 3 19))))) ≡ breach N10 3 16 }
     ensures conditions { first_name_breach (alone (ensuring stepping (implying positive_written positive_written))) ≡ None }
 {}
 

@@ -4,7 +4,7 @@
 #![tactic(auto, using(crate::proofs::Contexts::becomes), unfolding(spx_num::specs::Widths::fits))]
 
 ghost use Rattle.std.specs.Prelude.{◌≡◌, pos, [], ◌∷◌, None, Some, Ok, Err, codes};
-ghost use Rattle.spx_tree.specs.declared.expression.FunctionForm.TheVariants as form;
+ghost use Rattle.spx_core.specs.declared.function.FunctionForm.TheVariants as form;
 ghost use Rattle.spx_tree.specs.declared.expression.InfixOp.TheVariants as op;
 ghost use Rattle.spx_tree.specs.declared.statement.AssertionKind.TheVariants as assertion;
 ghost use Rattle.spx_tree.specs.declared.statement.Scheme.TheVariants as written_scheme;
@@ -18,7 +18,7 @@ ghost use Rattle.spx_core.specs.declared.statement.CoreScheme.TheVariants as sch
 ghost use Rattle.spx_core.specs.declared.statement.CoreStmt.TheVariants as stmt;
 ghost use Rattle.spx_core.specs.Contexts.{in_context};
 ghost use Rattle.spx_core.specs.Judged.{judged, typing};
-ghost use Rattle.spx_core.specs.Resolved.{resolved_count, target_at};
+ghost use Rattle.spx_core.specs.Resolved.{resolved_count};
 ghost use Rattle.spx_term.specs.declared.condition.CondKind.TheVariants as kind;
 ghost use Rattle.spx_term.specs.declared.term.Term.{Term};
 ghost use Rattle.spx_term.specs.declared.term.Term.TheVariants as term;
@@ -29,11 +29,11 @@ ghost use Rattle.spx_meaning.specs.Evaluation.{Gives, Fails};
 ghost use Rattle.spx_formula.specs.Terms.{now_term, term_of};
 ghost use Rattle.spx_paths.specs.Checks.{checks, in_range};
 ghost use Rattle.spx_examples.specs.Declarations.{breach_of, color, constant_in, name_in, named_number_in, narrowed_in, number_in, operation_in, type_in};
-ghost use Rattle.spx_examples.specs.Flag.{named};
 ghost use Rattle.spx_examples.specs.Increment.{place, word};
 ghost use Rattle.spx_examples.specs.NameRules.{breach};
+ghost use Rattle.spx_examples.specs.Names.{target_to};
 ghost use Rattle.spx_examples.specs.Operators.{Answers, a, minus, number, only_a};
-ghost use Rattle.spx_examples.specs.Powers.{Becomes, ComparedAsInteger, Resolves, Stays, big, c_named, closing, constant_at, converted_at, count_written, function_of, in_range_at, in_type_named, minus_at, n_at, n_named, name_written, number_at, operation_at, parenthesized_at, past_integer, power, power_of, power_written, raised, raised_term, scope, truth_at, unknown_at, unknown_named, v_at, v_named};
+ghost use Rattle.spx_examples.specs.Powers.{Becomes, ComparedAsInteger, Resolves, Stays, big, c_named, closing, constant_at, converted_at, count_written, function_of, in_range_at, in_type_named, minus_at, n_at, n_named, name_written, number_at, operation_at, parenthesized_at, past_integer, power, power_of, power_written, raised, raised_term, scene, scope, truth_at, unknown_at, unknown_named, v_at, v_named};
 ghost use Rattle.spx_examples.specs.Selections.{initialized_in};
 
 /// `2 ** N` has no static value, and takes the integer type that it meets: 2 is converted to it. It takes no other type. What has to be static meets none.
@@ -165,11 +165,11 @@ pub fn a_power_is_computed_in_its_type()
 /// it does beside X.
 #[tactic(auto, using(crate::proofs::Declarations::breach_is), unfolding(spx_core::specs::Regions::standard, spx_num::specs::Widths::fits))]
 pub fn each_place_gives_a_type()
-    ensures target { Resolves (written_stmt.Assignment (name_written (codes "V") 1) (power_written (pos 2) 6)) (stmt.Assignment (target_at (named (v_named 1))) (power_of big (pos 2) 6)) }
-    ensures integer_target { Resolves (written_stmt.Assignment (name_written (codes "N") 1) (power_written (pos 2) 6)) (stmt.Assignment (target_at (named (n_named 1))) (power_of INTEGER (pos 2) 6)) }
-    ensures constant_target { Resolves (written_stmt.Assignment (name_written (codes "C") 1) (power_written (pos 2) 6)) (stmt.Assignment (target_at (named (c_named 1))) (power_of big (pos 2) 6)) }
-    ensures unknown_target { Resolves (written_stmt.Assignment (name_written (codes "Y") 1) (power_written (pos 2) 6)) (stmt.Assignment (target_at (named (unknown_named 1))) (power (pos 2) 6)) }
-    ensures bounds { (resolved_count scope [] 0 count_written).bounds ≡ Some (record { low = number_at (pos 1) 20; high = power_of big (pos 2) 25 }) }
+    ensures target { Resolves (written_stmt.Assignment (name_written (codes "V") 1) (power_written (pos 2) 6)) (stmt.Assignment (target_to (v_named 1)) (power_of big (pos 2) 6)) }
+    ensures integer_target { Resolves (written_stmt.Assignment (name_written (codes "N") 1) (power_written (pos 2) 6)) (stmt.Assignment (target_to (n_named 1)) (power_of INTEGER (pos 2) 6)) }
+    ensures constant_target { Resolves (written_stmt.Assignment (name_written (codes "C") 1) (power_written (pos 2) 6)) (stmt.Assignment (target_to (c_named 1)) (power_of big (pos 2) 6)) }
+    ensures unknown_target { Resolves (written_stmt.Assignment (name_written (codes "Y") 1) (power_written (pos 2) 6)) (stmt.Assignment (target_to (unknown_named 1)) (power (pos 2) 6)) }
+    ensures bounds { (resolved_count scene scope [] 0 count_written).bounds ≡ Some (record { low = number_at (pos 1) 20; high = power_of big (pos 2) 25 }) }
     ensures arm { Resolves (written_stmt.If (record { place = place 1 1; condition = power_written (pos 2) 4; body = [] } ∷ []) None closing)
         (stmt.If (record { place = place 1 1; condition = power_of INTEGER (pos 2) 4; body = [] } ∷ []) None closing) }
     ensures while_loop { Resolves (written_stmt.Loop (written_scheme.While (place 1 1) (power_written (pos 2) 7)) (place 1 14) [] closing)

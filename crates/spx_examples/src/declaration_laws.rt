@@ -5,7 +5,6 @@
 
 ghost use Rattle.std.specs.Prelude.{◌≡◌, ◌++◌, pos, true, [], ◌∷◌, None, Some, codes};
 ghost use Rattle.spx_tree.specs.declared.expression.InfixOp.TheVariants as op;
-ghost use Rattle.spx_tree.specs.declared.expression.Name.TheVariants.{Simple};
 ghost use Rattle.spx_tree.specs.declared.expression.PrefixOp.TheVariants as prefix;
 ghost use Rattle.spx_core.specs.declared.entity.Entity.TheVariants as entity;
 ghost use Rattle.spx_core.specs.declared.entity.TheConstants.{BOOLEAN};
@@ -24,6 +23,7 @@ ghost use Rattle.spx_formula.specs.Terms.{term_of};
 ghost use Rattle.spx_examples.specs.Declarations.{LiteralEnds, SumEnds, breach_at, breach_of, c_written, color, color_written, constant_in, constant_of, denotes, enumeration_in, first_of, green, last_of, minus, n_written, name_in, named_number_in, narrowed_in, number_in, numbers_in, operation_in, part_of, red, row, rule_breach_at, s_written, short, signed_in, standing_for, subtype_in, t, t_written, type_in, types_of, types_of_two, u_written, variable_in, wide};
 ghost use Rattle.spx_examples.specs.Increment.{word, place};
 ghost use Rattle.spx_examples.specs.NameRules.{breach};
+ghost use Rattle.spx_examples.specs.Names.{simple};
 ghost use Rattle.spx_examples.specs.Operators.{Answers, number, truth, two, values};
 
 /// `type T is range 0 .. 10;`, the first type of the first procedure, has the row after the predefined types, the bounds 0 and 10, and the base
@@ -176,16 +176,16 @@ pub fn literals_have_no_arithmetic()
 /// numbers. It is the rule U2 that forbids it. A literal and a type are no targets at all.
 #[tactic(auto, using(crate::proofs::Declarations::breach_is, crate::proofs::Declarations::rule_breach_is), unfolding(spx_core::specs::Regions::standard, spx_num::specs::Widths::fits))]
 pub fn an_assigned_constant_breaks_u2()
-    ensures constant { breach_at (c_written ∷ []) (Simple (word (codes "C") 9 4)) (number_in (pos 2) 9 9) ≡ None }
-    ensures constant_u2 { rule_breach_at (c_written ∷ []) (Simple (word (codes "C") 9 4)) (number_in (pos 2) 9 9) ≡ breach U2 9 4 }
-    ensures named_number { breach_at (n_written ∷ []) (Simple (word (codes "N") 9 4)) (number_in (pos 2) 9 9) ≡ None }
-    ensures named_number_u2 { rule_breach_at (n_written ∷ []) (Simple (word (codes "N") 9 4)) (number_in (pos 2) 9 9) ≡ breach U2 9 4 }
-    ensures named_number_type { breach_at (n_written ∷ []) (Simple (word (codes "N") 9 4)) (name_in (codes "X") 9 9) ≡ breach N10 9 9 }
-    ensures another_type { breach_at (c_written ∷ []) (Simple (word (codes "C") 9 4)) (name_in (codes "True") 9 9) ≡ breach N10 9 9 }
-    ensures past_base { breach_at (c_written ∷ []) (Simple (word (codes "C") 9 4)) (number_in (pos 2147483648) 9 9) ≡ breach N12 9 9 }
-    ensures variable { rule_breach_at (variable_in 4 (codes "V") (codes "Integer") ∷ []) (Simple (word (codes "V") 9 4)) (number_in (pos 2) 9 9) ≡ None }
-    ensures literal { breach_at (color_written ∷ []) (Simple (word (codes "Red") 9 4)) (green 9 9) ≡ breach N3 9 4 }
-    ensures type_name { breach_at (t_written ∷ []) (Simple (word (codes "T") 9 4)) (number_in (pos 2) 9 9) ≡ breach N3 9 4 }
+    ensures constant { breach_at (c_written ∷ []) (simple (word (codes "C") 9 4)) (number_in (pos 2) 9 9) ≡ None }
+    ensures constant_u2 { rule_breach_at (c_written ∷ []) (simple (word (codes "C") 9 4)) (number_in (pos 2) 9 9) ≡ breach U2 9 4 }
+    ensures named_number { breach_at (n_written ∷ []) (simple (word (codes "N") 9 4)) (number_in (pos 2) 9 9) ≡ None }
+    ensures named_number_u2 { rule_breach_at (n_written ∷ []) (simple (word (codes "N") 9 4)) (number_in (pos 2) 9 9) ≡ breach U2 9 4 }
+    ensures named_number_type { breach_at (n_written ∷ []) (simple (word (codes "N") 9 4)) (name_in (codes "X") 9 9) ≡ breach N10 9 9 }
+    ensures another_type { breach_at (c_written ∷ []) (simple (word (codes "C") 9 4)) (name_in (codes "True") 9 9) ≡ breach N10 9 9 }
+    ensures past_base { breach_at (c_written ∷ []) (simple (word (codes "C") 9 4)) (number_in (pos 2147483648) 9 9) ≡ breach N12 9 9 }
+    ensures variable { rule_breach_at (variable_in 4 (codes "V") (codes "Integer") ∷ []) (simple (word (codes "V") 9 4)) (number_in (pos 2) 9 9) ≡ None }
+    ensures literal { breach_at (color_written ∷ []) (simple (word (codes "Red") 9 4)) (green 9 9) ≡ breach N3 9 4 }
+    ensures type_name { breach_at (t_written ∷ []) (simple (word (codes "T") 9 4)) (number_in (pos 2) 9 9) ≡ breach N3 9 4 }
 {}
 
 /// In a run, an operation must give a number of the base range of T, and an assignment one between the bounds of T: `A := A + B` for 10 and 1 is bad

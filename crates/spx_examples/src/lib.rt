@@ -21,6 +21,7 @@ pub mod loop_laws;
 pub mod name_rule_laws;
 pub mod operator_laws;
 pub mod part_laws;
+pub mod part_name_laws;
 pub mod part_program_laws;
 pub mod run_laws;
 pub mod script_laws;

@@ -4,13 +4,13 @@
 
 ghost use Rattle.std.specs.Prelude.{◌≡◌, pos, [], ◌∷◌, None, codes};
 ghost use Rattle.spx_tree.specs.declared.expression.InfixOp.TheVariants as op;
-ghost use Rattle.spx_tree.specs.declared.expression.Name.TheVariants.{Simple, Attribute};
 ghost use Rattle.spx_tree.specs.declared.subprogram.Unit.TheVariants as unit;
 ghost use Rattle.spx_core.specs.declared.rule.RuleName.TheVariants.{N1, N2, N3, N5, N10, N12, U7};
 ghost use Rattle.spx_core.specs.Obeyed.{first_rule_breach};
 ghost use Rattle.spx_core.specs.Resolved.{resolved};
 ghost use Rattle.spx_core.specs.Statements.{first_name_breach};
-ghost use Rattle.spx_examples.specs.Increment.{word, x_written, successor_written, inc_units};
+ghost use Rattle.spx_examples.specs.Increment.{word, successor_written, inc_units};
+ghost use Rattle.spx_examples.specs.Names.{attribute, simple};
 ghost use Rattle.spx_examples.specs.Next.{next_units};
 ghost use Rattle.spx_examples.specs.NameRules.{breach, alone, name_at, attribute_at, number_at, operation_at, minus_at, comparison_at, with_target, with_statement, if_x_written, assigning, stepping, ending, with_local, with_pre, with_relation, with_formal, twice_written, of_own_name, second_written, broken_body, broken_local, broken_post, broken_pre, broken_relation, broken_formal};
 
@@ -18,7 +18,7 @@ ghost use Rattle.spx_examples.specs.NameRules.{breach, alone, name_at, attribute
 /// does.
 pub fn an_undeclared_name_breaks_n1()
     ensures right_side { first_name_breach (alone (assigning (name_at (codes "Y") 9))) ≡ breach N1 6 9 }
-    ensures target { first_name_breach (alone (with_target (Simple (word (codes "Y") 6 4)) (successor_written 6 9))) ≡ breach N1 6 4 }
+    ensures target { first_name_breach (alone (with_target (simple (word (codes "Y") 6 4)) (successor_written 6 9))) ≡ breach N1 6 4 }
     ensures prefix { first_name_breach (alone (assigning (attribute_at (codes "Y") 9 (codes "First") 11))) ≡ breach N1 6 9 }
     ensures type_name { first_name_breach (alone (with_local stepping (codes "Z") (codes "Y") 8)) ≡ breach N1 4 8 }
     ensures import { first_name_breach (alone (with_relation stepping (codes "X") (codes "Y"))) ≡ breach N1 2 20 }
@@ -52,7 +52,7 @@ pub fn a_second_procedure_of_a_name_breaks_n2()
 pub fn a_name_of_another_kind_breaks_n3()
     ensures procedure { first_name_breach (alone (assigning (name_at (codes "Inc") 9))) ≡ breach N3 6 9 }
     ensures predefined { first_name_breach (alone (assigning (name_at (codes "Integer") 9))) ≡ breach N3 6 9 }
-    ensures target { first_name_breach (alone (with_target (Simple (word (codes "Inc") 6 4)) (successor_written 6 11))) ≡ breach N3 6 4 }
+    ensures target { first_name_breach (alone (with_target (simple (word (codes "Inc") 6 4)) (successor_written 6 11))) ≡ breach N3 6 4 }
     ensures import { first_name_breach (alone (with_relation stepping (codes "X") (codes "Inc"))) ≡ breach N3 2 20 }
     ensures prefix { first_name_breach (alone (assigning (attribute_at (codes "X") 9 (codes "First") 11))) ≡ breach N3 6 9 }
     ensures type_name { first_name_breach (alone (with_local stepping (codes "Y") (codes "X") 8)) ≡ breach N3 4 8 }
@@ -61,7 +61,7 @@ pub fn a_name_of_another_kind_breaks_n3()
 /// `Integer'Size` is no attribute here, and `X'First` no target. `Integer'First` is a value, whatever the letter case.
 pub fn an_attribute_out_of_place_breaks_n3()
     ensures other { first_name_breach (alone (assigning (attribute_at (codes "Integer") 9 (codes "Size") 17))) ≡ breach N3 6 9 }
-    ensures target { first_name_breach (alone (with_target (Attribute (word (codes "X") 6 4) (word (codes "First") 6 6)) (successor_written 6 15))) ≡ breach N3 6 4 }
+    ensures target { first_name_breach (alone (with_target (attribute (word (codes "X") 6 4) (word (codes "First") 6 6)) (successor_written 6 15))) ≡ breach N3 6 4 }
     ensures value { first_name_breach (alone (assigning (attribute_at (codes "INTEGER") 9 (codes "FIRST") 17))) ≡ None }
 {}
 

@@ -10,21 +10,23 @@ use Rattle.spx_core.specs.declared.entity.BaseType.{BaseType}
 use Rattle.spx_core.specs.declared.entity.Object.{Object}
 use Rattle.spx_core.specs.declared.entity.VarId.{VarId}
 use Rattle.spx_core.specs.declared.name.CoreName.{CoreName}
+use Rattle.spx_core.specs.declared.name.FaultyName.{FaultyName}
 use Rattle.spx_core.specs.declared.name.Reference.{Reference}
 use Rattle.spx_core.specs.declared.expression.CoreExpr.{CoreExpr, CoreExpr-F}
 use Rattle.spx_core.specs.declared.expression.CoreExpr.TheVariants as expr
 use Rattle.spx_core.specs.declared.function.CoreFunction.{CoreFunction}
 use Rattle.spx_core.specs.declared.function.Mapping.{Mapping}
+use Rattle.spx_core.specs.declared.part.ArrayEnds.{ArrayEnds}
 use Rattle.spx_core.specs.declared.part.Indexing.{Indexing}
 use Rattle.spx_core.specs.declared.part.Selection.{Selection}
 use Rattle.spx_core.specs.declared.rule.ExprType.{ExprType}
 use Rattle.spx_core.specs.declared.rule.ExprType.TheVariants.{Of}
 use Rattle.spx_core.specs.declared.rule.RuleName.TheVariants.{N10, N18}
 use Rattle.spx_core.specs.Types.{is_parted, is_typed_at}
-use Rattle.spx_core.specs.Judged.{Judged, ◌>>=◌, application, element, expr_step, indexed, judged, keeps, named_object, selected, typing}
+use Rattle.spx_core.specs.Judged.{Judged, ◌>>=◌, application, attribute_of, element, expr_step, indexed, judged, keeps, named_object, selected, typing}
 use Rattle.spx_core.specs.declared.rule.Typing.{Typing}
 use Rattle.spx_core.specs.Uses.{variable_of}
-use Rattle.spx_core.proofs.Callers.Expressions.{fold-Element, fold-Entry, fold-Number, fold-Parenthesized, fold-Selected, induct}
+use Rattle.spx_core.proofs.Callers.Expressions.{fold-Element, fold-Entry, fold-Faulty, fold-Number, fold-Parenthesized, fold-Selected, induct}
 use Rattle.spx_term.specs.declared.term.Term.{Term}
 use Rattle.spx_term.specs.declared.term.Term.TheVariants.{Number, Infix}
 use Rattle.spx_term.specs.declared.value.Value.{Value}
@@ -32,8 +34,8 @@ use Rattle.spx_term.specs.declared.value.Value.TheVariants as value
 use Rattle.spx_term.specs.Folding.{static_term}
 use Rattle.spx_meaning.specs.Evaluation.{term_op}
 use Rattle.spx_meaning.specs.Literals.{literal, literal_in, static_in}
-use Rattle.spx_meaning.proofs.Callers.Literals.{implicit_literal}
-use Rattle.spx_formula.specs.Terms.{element_term, field_term, first_term, last_term, literal_or, mapped_term, member_term, moved_term, named, signed_term, term_with, term_with-Applied, term_with-Attribute, term_with-Element, term_with-Entry, term_with-Implicit, term_with-InRange, term_with-InType, term_with-Infix, term_with-Name, term_with-Number, term_with-Parenthesized, term_with-Prefix, term_with-Selected}
+use Rattle.spx_meaning.proofs.Callers.Literals.{end_literal, implicit_literal}
+use Rattle.spx_formula.specs.Terms.{element_term, end_term, field_term, first_term, last_term, literal_or, mapped_term, member_term, moved_term, named, signed_term, term_with, term_with-Applied, term_with-ArrayAttribute, term_with-Attribute, term_with-Element, term_with-Entry, term_with-Faulty, term_with-Implicit, term_with-InRange, term_with-InType, term_with-Infix, term_with-Name, term_with-Number, term_with-Parenthesized, term_with-Prefix, term_with-Selected}
 use Rattle.spx_formula.specs.Functions.{shift_in}
 
 -- ---- static expressions
@@ -103,6 +105,10 @@ element_literal a place i x = ap literal_in (fold-Element expr_step a place i x)
 pub field_literal : (a : CoreExpr) (field : Identifier) (x : Selection) → literal (expr.Selected a field x) ≡ None
 field_literal a field x = ap literal_in (fold-Selected expr_step a field x) ∙ no_field x (judged a)
 
+-- a name that denotes nothing is not static
+pub faulty_literal : (faulty : FaultyName) → literal (expr.Faulty faulty) ≡ None
+faulty_literal faulty = ap literal_in (fold-Faulty expr_step faulty)
+
 -- a static expression has its value for its term
 pub static_is : (present entries : VarId → Term) (e : CoreExpr) (s : Value) → literal e ≡ Some s → term_with present entries e ≡ static_term s
 static_is present entries = induct (λ e. (s : Value) → literal e ≡ Some s → term_with present entries e ≡ static_term s) (record {
@@ -119,6 +125,8 @@ static_is present entries = induct (λ e. (s : Value) → literal e ≡ Some s �
   in_range = λ op place a low high first second third s is. term_with-InRange present entries op place a low high ∙ or_static _ s _ is;
   element = λ a place i x first second s is. of_none s _ (element_literal a place i x) is;
   selected = λ a field x more s is. of_none s _ (field_literal a field x) is;
+  array_attribute = λ a designator x more s is. term_with-ArrayAttribute present entries a designator x ∙ sym (static_number (attribute_of x.index designator.text)) ∙ ap static_term (sym (end_literal a designator x s is));
+  faulty = λ faulty s is. of_none s _ (faulty_literal faulty) is;
 })
 
 -- ---- functions
@@ -148,6 +156,12 @@ module _ (present entries : VarId → Term) (e : CoreExpr) where
 
   pub field_is : (a : CoreExpr) (field : Identifier) (x : Selection) → e ≡ expr.Selected a field x → meant e ≡ field_term x (meant a)
   field_is a field x is = ap meant is ∙ term_with-Selected present entries a field x
+
+  pub end_is : (a : CoreExpr) (designator : Identifier) (x : ArrayEnds) → e ≡ expr.ArrayAttribute a designator x → meant e ≡ end_term x designator
+  end_is a designator x is = ap meant is ∙ term_with-ArrayAttribute present entries a designator x
+
+  pub faulty_term : (faulty : FaultyName) → e ≡ expr.Faulty faulty → meant e ≡ Number (pos 0)
+  faulty_term faulty is = ap meant is ∙ term_with-Faulty present entries faulty
 
   module _ (none : None ≡ literal e) where
     or_else : (d : CoreExpr) (t : Term) → e ≡ d → literal_or (literal d) t ≡ t

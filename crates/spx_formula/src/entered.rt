@@ -113,5 +113,7 @@ pub fn is_fixed(interface: &Interface, expr: &CoreExpr) -> bool
             is_fixed(interface, prefix.get()) && is_fixed(interface, index.get())
         }
         CoreExpr::Selected(prefix, _, _) => is_fixed(interface, prefix.get()),
+        CoreExpr::ArrayAttribute(_, _, _) => true,
+        CoreExpr::Faulty(_) => true,
     }
 }

@@ -4,11 +4,13 @@ ghost use Rattle.spx_meaning.specs.Parts.{array_of, field_name};
 ghost use Rattle.spx_meaning.specs.Stores.{component_of};
 ghost use Rattle.spx_term.specs.Parts.{indexed_by, selecting, with_part_term};
 ghost use Rattle.spx_arena.specs.Sharing.{tree_at, Adds};
-ghost use Rattle.spx_formula.specs.Terms.{element_term, field_term};
+ghost use Rattle.spx_formula.specs.Terms.{element_term, end_term, field_term};
 
 use spx_arena::{Node, TermId, Terms};
-use spx_core::{Class, Indexing, Selection, Subtype};
+use spx_core::{ArrayEnds, Class, Indexing, Selection, Subtype};
 use spx_term::{ArrayType, BinaryOp, Component, FieldName, TernaryOp, UnaryOp};
+use spx_tree::Identifier;
+use spx_types::attribute_of;
 use std::alloc::AllocError;
 
 /// A bound of a type, as terms hold it. The bounds of a declared type have at most 64 bits (rule N13). With any other one the
@@ -84,6 +86,17 @@ pub fn field_id(terms: &mut Terms, x: &Selection, whole: TermId) -> Result<TermI
 {
     let component = component_of(&x.field)?;
     terms.make(Node::Unary(UnaryOp::Field(field_name(x), component), whole))
+}
+
+/// The id of `'First` or `'Last` of an array.
+pub fn end_id(
+    terms: &mut Terms,
+    x: &ArrayEnds,
+    designator: &Identifier,
+) -> Result<TermId, AllocError>
+    ensures { IfOk result (λ id. Adds terms.old terms.new id (end_term x.now designator.now)) }
+{
+    terms.make(Node::Number(attribute_of(x.index, &designator.text)))
 }
 
 /// The id of an array with another element.

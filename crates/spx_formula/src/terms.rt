@@ -10,7 +10,7 @@ ghost use Rattle.spx_formula.specs.Functions.{shift_in};
 ghost use Rattle.spx_formula.specs.EntryNames.{meant, present_term};
 
 use crate::entered::{Entered, present_name};
-use crate::parts::{element_id, field_id};
+use crate::parts::{element_id, end_id, field_id};
 use spx_arena::{Node, TermId, Terms};
 use spx_core::{CoreExpr, CoreFunction, Entity, Program, Shift, variable_of};
 use spx_meaning::term_op;
@@ -180,5 +180,7 @@ pub fn term_id(
             let prefix = term_id(program, entered, terms, prefix.get())?;
             field_id(terms, x.get(), prefix)
         }
+        CoreExpr::ArrayAttribute(_, designator, x) => end_id(terms, x.get(), designator),
+        CoreExpr::Faulty(_) => terms.make(Node::Number(0)),
     }
 }

@@ -2,8 +2,8 @@
 use Rattle.std.proofs.Common.{◌≡◌, ℕ, Bool, true, false, List, Option, Some, None, Ok, Err, refl, sym, ap, subst, ◌∙◌}
 use Rattle.std.specs.Prelude.{codes, if◌then◌else◌}
 use Rattle.spx_text.specs.declared.place.Place.{Place}
-use Rattle.spx_tree.specs.declared.expression.FunctionForm.{FunctionForm}
-use Rattle.spx_tree.specs.declared.expression.FunctionForm.TheVariants as form
+use Rattle.spx_core.specs.declared.function.FunctionForm.{FunctionForm}
+use Rattle.spx_core.specs.declared.function.FunctionForm.TheVariants as form
 use Rattle.spx_core.specs.declared.entity.TheConstants.{INTEGER}
 use Rattle.spx_core.specs.declared.entity.BaseType.{BaseType}
 use Rattle.spx_core.specs.declared.entity.Subtype.{Subtype}

@@ -94,26 +94,19 @@ fn lowered(alloc: Global, stmt: &CoreStmt) -> Result<Item, AllocError>
         CoreStmt::Null(_) => Ok(Item::Nothing),
         CoreStmt::Assignment(target, value) => lowered_assignment(alloc, target.get(), value.get()),
         CoreStmt::If(arms, otherwise, _) => {
-            let arms = lowered_arms(alloc, arms.get().as_slice())?;
+            let arms = lowered_arms(alloc, arms.as_slice())?;
             match otherwise {
                 None => boxed_branch(alloc, Items::new(alloc), arms, None, Items::new(alloc)),
                 Some(stmts) => {
-                    let stmts = lower(alloc, stmts.get().as_slice())?;
+                    let stmts = lower(alloc, stmts.as_slice())?;
                     boxed_branch(alloc, Items::new(alloc), arms, None, stmts)
                 }
             }
         }
         CoreStmt::Case(place, selector, alternatives, _) => {
-            lowered_case(
-                alloc,
-                alternatives.get().as_slice(),
-                *place.get(),
-                selector.get(),
-            )
+            lowered_case(alloc, alternatives.as_slice(), *place, selector.get())
         }
-        CoreStmt::Loop(scheme, _, body, _) => {
-            lowered_loop(alloc, body.get().as_slice(), scheme.get())
-        }
+        CoreStmt::Loop(scheme, _, body, _) => { lowered_loop(alloc, body.as_slice(), scheme) }
         CoreStmt::Assertion(_, _, condition) => {
             let reads = reads_of(alloc, condition.get())?;
             Ok(Item::Observe(reads))
@@ -130,7 +123,7 @@ fn lowered_arms(alloc: Global, arms: &[CoreArm]) -> Result<Items<Arm>, AllocErro
     let mut made = Items::new(alloc);
     for arm in arms {
         let reads = reads_of(alloc, arm.condition.get())?;
-        let arm = lowered_arm(alloc, arm.body.get().as_slice(), arm.place, reads)?;
+        let arm = lowered_arm(alloc, arm.body.as_slice(), arm.place, reads)?;
         made.push(arm)?;
     }
     Ok(made)

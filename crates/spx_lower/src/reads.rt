@@ -53,6 +53,8 @@ fn add_reads(value: &CoreExpr, found: &mut Items<Read>) -> Result<(), AllocError
             add_reads(index.get(), found)
         }
         CoreExpr::Selected(prefix, _, _) => add_reads(prefix.get(), found),
+        CoreExpr::ArrayAttribute(_, _, _) => Ok(()),
+        CoreExpr::Faulty(_) => Ok(()),
     }
 }
 

@@ -1,7 +1,11 @@
 pub mod Results
+pub mod Taken
 pub mod Declared
 pub mod InOrder
+pub mod Walks
 pub mod StatementForms
 pub mod Declarations
 pub mod Subprograms
 pub mod Programs
+pub mod MembershipForms
+pub mod BodyForms

@@ -14,6 +14,7 @@ use Rattle.spx_tree.specs.declared.statement.Stmt.TheVariants.{If, Case, Loop, o
 use Rattle.spx_core.specs.declared.name.Defining.{Defining}
 use Rattle.spx_core.specs.declared.expression.CoreExpr.{CoreExpr}
 use Rattle.spx_core.specs.declared.dependency.CoreDerivesItem.{CoreDerivesItem}
+use Rattle.spx_core.specs.declared.program.TypeRow.{TypeRow}
 use Rattle.spx_core.specs.declared.program.Var.{Var}
 use Rattle.spx_core.specs.declared.statement.CoreAlternative.{CoreAlternative}
 use Rattle.spx_core.specs.declared.statement.CoreArm.{CoreArm}
@@ -23,7 +24,7 @@ use Rattle.spx_core.specs.declared.statement.CoreScheme.TheVariants as core_sche
 use Rattle.spx_core.specs.declared.statement.CoreStmt.{CoreStmt}
 use Rattle.spx_core.specs.declared.statement.CoreStmt.TheVariants as stmt
 use Rattle.spx_core.specs.Regions.{Declaration, Region, Regions, declared_in, with_declaration}
-use Rattle.spx_core.specs.Resolved.{Part, alternative_step, arm_step, declared_by_scheme, declaring_all, in_order, loop_with, parameters_by, parameters_by_alternative, parameters_by_arm, parameters_by_stmts, resolved_alternative, resolved_arm, resolved_choice, resolved_condition, resolved_scheme, resolved_stmt, resolved_stmts, stmt_step, var_of}
+use Rattle.spx_core.specs.Resolved.{Part, alternative_step, arm_step, declared_by_scheme, declaring_all, in_code, in_order, loop_with, parameters_by, parameters_by_alternative, parameters_by_arm, parameters_by_stmts, resolved_alternative, resolved_arm, resolved_choice, resolved_condition, resolved_scheme, resolved_stmt, resolved_stmts, stmt_step, var_of}
 use Rattle.spx_core.proofs.Callers.LoopParameters.{parameters-If, parameters-If-else, parameters-Case, parameters-Loop, parameters-arm, parameters-alternative}
 use Rattle.spx_naming.proofs.Declared.{length_after}
 use Rattle.spx_naming.proofs.InOrder.{Made}
@@ -52,63 +53,63 @@ arm_of place condition body = record { place = place; condition = condition; bod
 abbrev alternative_of : Option (List CoreChoice) → List CoreStmt → CoreAlternative
 alternative_of choices body = record { choices = choices; body = body }
 
-module _ (items : List CoreDerivesItem) (outer : Regions) where
+module _ (types : List TypeRow) (items : List CoreDerivesItem) (outer : Regions) where
   stmt_at : (s : Stmt) (layer : Stmt-F Stmt Alternative Arm) → out-Stmt s ≡ layer
-      → resolved_stmt items outer s
-      ≡ stmt_step items outer (map-Stmt Stmt Alternative Arm (Part CoreStmt) (Part CoreAlternative) (Part CoreArm) (resolved_stmt items outer) (resolved_alternative items outer) (resolved_arm items outer) layer)
+      → resolved_stmt types items outer s
+      ≡ stmt_step types items outer (map-Stmt Stmt Alternative Arm (Part CoreStmt) (Part CoreAlternative) (Part CoreArm) (resolved_stmt types items outer) (resolved_alternative types items outer) (resolved_arm types items outer) layer)
   stmt_at s layer is =
-      fold_out-Stmt (Part CoreStmt) (Part CoreAlternative) (Part CoreArm) (stmt_step items outer) (alternative_step outer) (arm_step outer) s
-      ∙ ap (λ x. stmt_step items outer (map-Stmt Stmt Alternative Arm (Part CoreStmt) (Part CoreAlternative) (Part CoreArm) (resolved_stmt items outer) (resolved_alternative items outer) (resolved_arm items outer) x)) is
+      fold_out-Stmt (Part CoreStmt) (Part CoreAlternative) (Part CoreArm) (stmt_step types items outer) (alternative_step types outer) (arm_step types outer) s
+      ∙ ap (λ x. stmt_step types items outer (map-Stmt Stmt Alternative Arm (Part CoreStmt) (Part CoreAlternative) (Part CoreArm) (resolved_stmt types items outer) (resolved_alternative types items outer) (resolved_arm types items outer) x)) is
 
   -- the same in a region and at a position
   stmt_in : (s : Stmt) (layer : Stmt-F Stmt Alternative Arm) → out-Stmt s ≡ layer → (region : Region) (position : ℕ)
-      → resolved_stmt items outer s region position
-      ≡ stmt_step items outer (map-Stmt Stmt Alternative Arm (Part CoreStmt) (Part CoreAlternative) (Part CoreArm) (resolved_stmt items outer) (resolved_alternative items outer) (resolved_arm items outer) layer) region position
+      → resolved_stmt types items outer s region position
+      ≡ stmt_step types items outer (map-Stmt Stmt Alternative Arm (Part CoreStmt) (Part CoreAlternative) (Part CoreArm) (resolved_stmt types items outer) (resolved_alternative types items outer) (resolved_arm types items outer) layer) region position
   stmt_in s layer is region position = ap (λ (p : Part CoreStmt). p region position) (stmt_at s layer is)
 
   module _ (region : Region) (vars : List Var) where
     module _ (region' : Region) (vars' : List Var) where
-      pub made_arm : (arm : Arm) (given : List Stmt) (condition : CoreExpr) (body : List CoreStmt) → condition ≡ resolved_condition [] (region ∷ outer) (out-Arm arm).condition → given ≡ (out-Arm arm).body
-          → Made (resolved_stmts items outer given) parameters_by_stmts region vars region' vars' body
-          → Made (resolved_arm items outer arm) parameters_by_arm region vars region' vars' (arm_of (out-Arm arm).place condition body)
+      pub made_arm : (arm : Arm) (given : List Stmt) (condition : CoreExpr) (body : List CoreStmt) → condition ≡ resolved_condition (in_code types) (region ∷ outer) (out-Arm arm).condition → given ≡ (out-Arm arm).body
+          → Made (resolved_stmts types items outer given) parameters_by_stmts region vars region' vars' body
+          → Made (resolved_arm types items outer arm) parameters_by_arm region vars region' vars' (arm_of (out-Arm arm).place condition body)
       made_arm arm given condition body is_condition is_given (made, same, are_vars) = (
-        ap {B = CoreArm × ℕ} (λ (q : List CoreStmt × ℕ). (arm_of (out-Arm arm).place condition q.0, q.1)) (made ∙ ap (λ ss. resolved_stmts items outer ss region (length vars)) is_given)
-            ∙ ap {B = CoreArm × ℕ} (λ e. (arm_of (out-Arm arm).place e (resolved_stmts items outer (out-Arm arm).body region (length vars)).0, (resolved_stmts items outer (out-Arm arm).body region (length vars)).1)) is_condition
-            ∙ sym (ap (λ (p : Part CoreArm). p region (length vars)) (fold_out-Arm (Part CoreStmt) (Part CoreAlternative) (Part CoreArm) (stmt_step items outer) (alternative_step outer) (arm_step outer) arm)),
+        ap {B = CoreArm × ℕ} (λ (q : List CoreStmt × ℕ). (arm_of (out-Arm arm).place condition q.0, q.1)) (made ∙ ap (λ ss. resolved_stmts types items outer ss region (length vars)) is_given)
+            ∙ ap {B = CoreArm × ℕ} (λ e. (arm_of (out-Arm arm).place e (resolved_stmts types items outer (out-Arm arm).body region (length vars)).0, (resolved_stmts types items outer (out-Arm arm).body region (length vars)).1)) is_condition
+            ∙ sym (ap (λ (p : Part CoreArm). p region (length vars)) (fold_out-Arm (Part CoreStmt) (Part CoreAlternative) (Part CoreArm) (stmt_step types items outer) (alternative_step types outer) (arm_step types outer) arm)),
         same,
         are_vars ∙ ap (λ ds. vars ++ map var_of ds) (sym (parameters-arm (arm_of (out-Arm arm).place condition body))),
       )
 
       pub made_alternative : (alternative : Alternative) (given : List Stmt) (choices : Option (List CoreChoice)) (body : List CoreStmt)
-          → choices ≡ option_map (map (resolved_choice (region ∷ outer))) (out-Alternative alternative).choices → given ≡ (out-Alternative alternative).body
-          → Made (resolved_stmts items outer given) parameters_by_stmts region vars region' vars' body
-          → Made (resolved_alternative items outer alternative) parameters_by_alternative region vars region' vars' (alternative_of choices body)
+          → choices ≡ option_map (map (resolved_choice (in_code types) (region ∷ outer))) (out-Alternative alternative).choices → given ≡ (out-Alternative alternative).body
+          → Made (resolved_stmts types items outer given) parameters_by_stmts region vars region' vars' body
+          → Made (resolved_alternative types items outer alternative) parameters_by_alternative region vars region' vars' (alternative_of choices body)
       made_alternative alternative given choices body are_choices is_given (made, same, are_vars) = (
-        ap {B = CoreAlternative × ℕ} (λ (q : List CoreStmt × ℕ). (alternative_of choices q.0, q.1)) (made ∙ ap (λ ss. resolved_stmts items outer ss region (length vars)) is_given)
-            ∙ ap {B = CoreAlternative × ℕ} (λ e. (alternative_of e (resolved_stmts items outer (out-Alternative alternative).body region (length vars)).0, (resolved_stmts items outer (out-Alternative alternative).body region (length vars)).1)) are_choices
-            ∙ sym (ap (λ (p : Part CoreAlternative). p region (length vars)) (fold_out-Alternative (Part CoreStmt) (Part CoreAlternative) (Part CoreArm) (stmt_step items outer) (alternative_step outer) (arm_step outer) alternative)),
+        ap {B = CoreAlternative × ℕ} (λ (q : List CoreStmt × ℕ). (alternative_of choices q.0, q.1)) (made ∙ ap (λ ss. resolved_stmts types items outer ss region (length vars)) is_given)
+            ∙ ap {B = CoreAlternative × ℕ} (λ e. (alternative_of e (resolved_stmts types items outer (out-Alternative alternative).body region (length vars)).0, (resolved_stmts types items outer (out-Alternative alternative).body region (length vars)).1)) are_choices
+            ∙ sym (ap (λ (p : Part CoreAlternative). p region (length vars)) (fold_out-Alternative (Part CoreStmt) (Part CoreAlternative) (Part CoreArm) (stmt_step types items outer) (alternative_step types outer) (arm_step types outer) alternative)),
         same,
         are_vars ∙ ap (λ ds. vars ++ map var_of ds) (sym (parameters-alternative (alternative_of choices body))),
       )
 
       pub made-If : (s : Stmt) (arms given : List Arm) (o : Option (List Stmt)) (closing : Closing) (xs : List CoreArm) → s ≡ If arms o closing → o ≡ None → given ≡ arms
-          → Made (in_order (map (resolved_arm items outer) given)) (flat_map parameters_by_arm) region vars region' vars' xs
-          → Made (resolved_stmt items outer s) parameters_by region vars region' vars' (stmt.If xs None closing)
+          → Made (in_order (map (resolved_arm types items outer) given)) (flat_map parameters_by_arm) region vars region' vars' xs
+          → Made (resolved_stmt types items outer s) parameters_by region vars region' vars' (stmt.If xs None closing)
       made-If s arms given o closing xs is none is_given (made, same, are_vars) = (
-        ap {B = CoreStmt × ℕ} (λ (q : List CoreArm × ℕ). (stmt.If q.0 None closing, q.1)) (made ∙ ap (λ ys. in_order (map (resolved_arm items outer) ys) region (length vars)) is_given)
+        ap {B = CoreStmt × ℕ} (λ (q : List CoreArm × ℕ). (stmt.If q.0 None closing, q.1)) (made ∙ ap (λ ys. in_order (map (resolved_arm types items outer) ys) region (length vars)) is_given)
             ∙ sym (stmt_in s (Stmt-F.If arms None closing) (ap out-Stmt (is ∙ ap (λ x. If arms x closing) none) ∙ outs-If arms None closing) region (length vars)),
         same,
         are_vars ∙ ap (λ ds. vars ++ map var_of ds) (sym (parameters-If (stmt.If xs None closing) xs None closing refl refl)),
       )
 
       pub made-Case : (s : Stmt) (place : Place) (selector : Expr) (alternatives given : List Alternative) (closing : Closing) (chosen : CoreExpr) (xs : List CoreAlternative)
-          → s ≡ Case place selector alternatives closing → chosen ≡ resolved_condition [] (region ∷ outer) selector → given ≡ alternatives
-          → Made (in_order (map (resolved_alternative items outer) given)) (flat_map parameters_by_alternative) region vars region' vars' xs
-          → Made (resolved_stmt items outer s) parameters_by region vars region' vars' (stmt.Case place chosen xs closing)
+          → s ≡ Case place selector alternatives closing → chosen ≡ resolved_condition (in_code types) (region ∷ outer) selector → given ≡ alternatives
+          → Made (in_order (map (resolved_alternative types items outer) given)) (flat_map parameters_by_alternative) region vars region' vars' xs
+          → Made (resolved_stmt types items outer s) parameters_by region vars region' vars' (stmt.Case place chosen xs closing)
       made-Case s place selector alternatives given closing chosen xs is is_chosen is_given (made, same, are_vars) = (
         ap {B = CoreStmt × ℕ} (λ (q : List CoreAlternative × ℕ). (stmt.Case place chosen q.0 closing, q.1))
-            (made ∙ ap (λ ys. in_order (map (resolved_alternative items outer) ys) region (length vars)) is_given)
-            ∙ ap {B = CoreStmt × ℕ} (λ e. (stmt.Case place e (in_order (map (resolved_alternative items outer) alternatives) region (length vars)).0 closing, (in_order (map (resolved_alternative items outer) alternatives) region (length vars)).1)) is_chosen
+            (made ∙ ap (λ ys. in_order (map (resolved_alternative types items outer) ys) region (length vars)) is_given)
+            ∙ ap {B = CoreStmt × ℕ} (λ e. (stmt.Case place e (in_order (map (resolved_alternative types items outer) alternatives) region (length vars)).0 closing, (in_order (map (resolved_alternative types items outer) alternatives) region (length vars)).1)) is_chosen
             ∙ sym (stmt_in s (Stmt-F.Case place selector alternatives closing) (ap out-Stmt is ∙ outs-Case place selector alternatives closing) region (length vars)),
         same,
         are_vars ∙ ap (λ ds. vars ++ map var_of ds) (sym (parameters-Case (stmt.Case place chosen xs closing) place chosen xs closing refl)),
@@ -117,13 +118,13 @@ module _ (items : List CoreDerivesItem) (outer : Regions) where
       module _ (region'' : Region) (vars'' : List Var) where
         pub made-If-else : (s : Stmt) (arms given : List Arm) (o : Option (List Stmt)) (stmts others : List Stmt) (closing : Closing) (xs : List CoreArm) (ys : List CoreStmt)
             → s ≡ If arms o closing → o ≡ Some stmts → given ≡ arms → others ≡ stmts
-            → Made (in_order (map (resolved_arm items outer) given)) (flat_map parameters_by_arm) region vars region' vars' xs
-            → Made (resolved_stmts items outer others) parameters_by_stmts region' vars' region'' vars'' ys
-            → Made (resolved_stmt items outer s) parameters_by region vars region'' vars'' (stmt.If xs (Some ys) closing)
+            → Made (in_order (map (resolved_arm types items outer) given)) (flat_map parameters_by_arm) region vars region' vars' xs
+            → Made (resolved_stmts types items outer others) parameters_by_stmts region' vars' region'' vars'' ys
+            → Made (resolved_stmt types items outer s) parameters_by region vars region'' vars'' (stmt.If xs (Some ys) closing)
         made-If-else s arms given o stmts others closing xs ys is some is_given are_others (made, same, are_vars) (made', same', are_vars') = (
-          ap {B = CoreStmt × ℕ} (λ (q : List CoreStmt × ℕ). (stmt.If xs (Some q.0) closing, q.1)) (made' ∙ ap₂ (λ ss r. resolved_stmts items outer ss r (length vars')) are_others same)
-              ∙ ap {B = CoreStmt × ℕ} (λ (q : List CoreArm × ℕ). (stmt.If q.0 (Some (resolved_stmts items outer stmts region q.1).0) closing, (resolved_stmts items outer stmts region q.1).1))
-              (made ∙ ap (λ ys. in_order (map (resolved_arm items outer) ys) region (length vars)) is_given)
+          ap {B = CoreStmt × ℕ} (λ (q : List CoreStmt × ℕ). (stmt.If xs (Some q.0) closing, q.1)) (made' ∙ ap₂ (λ ss r. resolved_stmts types items outer ss r (length vars')) are_others same)
+              ∙ ap {B = CoreStmt × ℕ} (λ (q : List CoreArm × ℕ). (stmt.If q.0 (Some (resolved_stmts types items outer stmts region q.1).0) closing, (resolved_stmts types items outer stmts region q.1).1))
+              (made ∙ ap (λ ys. in_order (map (resolved_arm types items outer) ys) region (length vars)) is_given)
               ∙ sym (stmt_in s (Stmt-F.If arms (Some stmts) closing) (ap out-Stmt (is ∙ ap (λ x. If arms x closing) some) ∙ outs-If arms (Some stmts) closing) region (length vars)),
           same' ∙ same,
           both_add vars vars' vars'' (flat_map parameters_by_arm xs) (parameters_by_stmts ys) (parameters_by (stmt.If xs (Some ys) closing)) are_vars are_vars'
@@ -132,15 +133,15 @@ module _ (items : List CoreDerivesItem) (outer : Regions) where
 
         pub made-Loop : (s : Stmt) (scheme : Scheme) (word : Place) (body given : List Stmt) (closing : Closing) (count : ℕ) (last : Region) (x : CoreScheme) (ys : List CoreStmt)
             → s ≡ Loop scheme word body closing → count ≡ length region → given ≡ body
-            → (x ≡ resolved_scheme outer region (length vars) scheme) × (region' ≡ declaring_all region (declared_by_scheme x)) × (vars' ≡ vars ++ map var_of (declared_by_scheme x))
-            → Made (resolved_stmts items outer given) parameters_by_stmts region' vars' region'' vars'' ys
+            → (x ≡ resolved_scheme (in_code types) outer region (length vars) scheme) × (region' ≡ declaring_all region (declared_by_scheme x)) × (vars' ≡ vars ++ map var_of (declared_by_scheme x))
+            → Made (resolved_stmts types items outer given) parameters_by_stmts region' vars' region'' vars'' ys
             → last ≡ take count region''
-            → Made (resolved_stmt items outer s) parameters_by region vars last vars'' (stmt.Loop x word ys closing)
+            → Made (resolved_stmt types items outer s) parameters_by region vars last vars'' (stmt.Loop x word ys closing)
         made-Loop s scheme word body given closing count last x ys is is_count is_given (is_scheme, declared, are_vars) (made', same', are_vars') cut = (
           ap {B = CoreStmt × ℕ} (λ (q : List CoreStmt × ℕ). (stmt.Loop x word q.0 closing, q.1))
-              (made' ∙ ap₂ (λ ss r. resolved_stmts items outer ss r (length vars')) is_given declared
-              ∙ ap (resolved_stmts items outer body (declaring_all region (declared_by_scheme x))) (ap length are_vars ∙ length_after vars (declared_by_scheme x)))
-              ∙ ap (λ y. loop_with word closing (resolved_stmts items outer body) y region (length vars)) is_scheme
+              (made' ∙ ap₂ (λ ss r. resolved_stmts types items outer ss r (length vars')) is_given declared
+              ∙ ap (resolved_stmts types items outer body (declaring_all region (declared_by_scheme x))) (ap length are_vars ∙ length_after vars (declared_by_scheme x)))
+              ∙ ap (λ y. loop_with word closing (resolved_stmts types items outer body) y region (length vars)) is_scheme
               ∙ sym (stmt_in s (Stmt-F.Loop scheme word body closing) (ap out-Stmt is ∙ outs-Loop scheme word body closing) region (length vars)),
           cut ∙ ap₂ (λ n r. take n r) is_count (same' ∙ declared) ∙ taken_back region x,
           both_add vars vars' vars'' (declared_by_scheme x) (parameters_by_stmts ys) (parameters_by (stmt.Loop x word ys closing)) are_vars are_vars'

@@ -16,7 +16,7 @@ use Rattle.spx_core.specs.declared.program.TypeRow.{TypeRow}
 use Rattle.spx_core.specs.declared.program.Var.{Var}
 use Rattle.spx_core.specs.Regions.{Region}
 use Rattle.spx_core.specs.Dependency.{items_of}
-use Rattle.spx_core.specs.Resolved.{Counts, after_formals, around_annotations, around_body, declared_before, declared_by_decls, declared_by_params, declaring_all, derives_of, own_region, own_types, own_vars, parameters_by_stmts, params_of, positions, resolved_decls, resolved_derives, resolved_formal_part, resolved_predicate, resolved_stmts, resolved_sub, rows_by_decls, sub_of, var_of, variables_by_decls, with_formals}
+use Rattle.spx_core.specs.Resolved.{Before, after_formals, around_annotations, around_body, declared_before, declared_by_decls, declared_by_params, declaring_all, derives_of, in_annotation, in_code, own_region, own_types, own_vars, parameters_by_stmts, params_of, positions, resolved_decls, resolved_derives, resolved_formal_part, resolved_predicate, resolved_stmts, resolved_sub, rows_by_decls, sub_of, var_of, variables_by_decls, with_formals}
 use Rattle.spx_naming.specs.Ids.{ids_from}
 use Rattle.spx_naming.proofs.Declared.{declaring_append, length_after, positions_are}
 
@@ -51,24 +51,24 @@ sub_made name s part decls derives pre post statements end_name vars count local
   local_count = locals;
 }
 
-module _ (name : Defining) (s : Subprogram) (before : Counts) (part : Option CoreFormalPart) (decls : List CoreDecl) where
+module _ (name : Defining) (s : Subprogram) (before : Before) (part : Option CoreFormalPart) (decls : List CoreDecl) where
   -- its statements, where its dependency relation has these items
   abbrev statements_under : List CoreDerivesItem → List CoreStmt
-  statements_under items = (resolved_stmts items (around_body name) s.statements (own_region part decls) (before.vars + length (declared_before part decls))).0
+  statements_under items = (resolved_stmts (before.types ++ rows_by_decls decls) items (around_body name) s.statements (own_region part decls) (before.vars + length (declared_before part decls))).0
 
   sub_is : (derives : Option CoreDerives) (pre post : Option CorePredicate) (statements : List CoreStmt) (end_name : Option Identifier) (vars : List VarId) (count locals : ℕ)
       → derives ≡ derives_of name part s
-      → pre ≡ option_map (resolved_predicate [] (around_annotations name part)) s.pre
-      → post ≡ option_map (resolved_predicate (items_of derives) (around_annotations name part)) s.post
+      → pre ≡ option_map (resolved_predicate (in_code before.types) (around_annotations name part)) s.pre
+      → post ≡ option_map (resolved_predicate (in_annotation before.types (items_of derives)) (around_annotations name part)) s.post
       → statements ≡ statements_under (items_of derives)
       → end_name ≡ s.end_name
       → vars ≡ positions before.vars (declared_before part decls ++ parameters_by_stmts statements)
       → count ≡ length (declared_by_params (params_of part))
       → locals ≡ length (variables_by_decls decls)
-      → sub_made name s part decls derives pre post statements end_name vars count locals ≡ sub_of name before.vars s part decls
+      → sub_made name s part decls derives pre post statements end_name vars count locals ≡ sub_of name before s part decls
   sub_is derives pre post statements end_name vars count locals is_derives is_pre is_post are_statements is_end_name are_vars is_count are_locals =
-      let all = sub_of name before.vars s part decls in
-      let post_is : post ≡ all.post = is_post ∙ ap (λ d. option_map (resolved_predicate (items_of d) (around_annotations name part)) s.post) is_derives in
+      let all = sub_of name before s part decls in
+      let post_is : post ≡ all.post = is_post ∙ ap (λ d. option_map (resolved_predicate (in_annotation before.types (items_of d)) (around_annotations name part)) s.post) is_derives in
       let statements_are : statements ≡ all.statements = are_statements ∙ ap (λ d. statements_under (items_of d)) is_derives in
       let vars_are : vars ≡ all.vars = are_vars ∙ ap (λ x. positions before.vars (declared_before part decls ++ parameters_by_stmts x)) statements_are in
       ap (λ x. sub_made name s part decls x pre post statements end_name vars count locals) is_derives
@@ -82,12 +82,12 @@ module _ (name : Defining) (s : Subprogram) (before : Counts) (part : Option Cor
 
   sub_is_resolved : part ≡ option_map (resolved_formal_part s.name before.vars) s.formal_part
       → decls ≡ resolved_decls (around_body name) (declaring_all [] (declared_by_params (params_of part))) (after_formals before part) s.declarations
-      → sub_of name before.vars s part decls ≡ resolved_sub name before s
-  sub_is_resolved is_part are_decls = ap (sub_of name before.vars s part) are_decls ∙ ap (with_formals name before s) is_part
+      → sub_of name before s part decls ≡ resolved_sub name before s
+  sub_is_resolved is_part are_decls = ap (sub_of name before s part) are_decls ∙ ap (with_formals name before s) is_part
 
--- so many variables and types
-abbrev so_many : List Var → List TypeRow → Counts
-so_many vars types = record { vars = length vars; types = length types }
+-- so many variables, and these types
+abbrev so_many : List Var → List TypeRow → Before
+so_many vars types = record { vars = length vars; types = types }
 
 -- what its functions give is the subprogram
 pub whole : (name : Defining) (s : Subprogram) (before mid after : List Var) (types types' : List TypeRow) (first middle end : ℕ) (formals : Region) (part : Option CoreFormalPart)
@@ -97,11 +97,11 @@ pub whole : (name : Defining) (s : Subprogram) (before mid after : List Var) (ty
     × (formals ≡ declaring_all [] (declared_by_params (params_of part)))
     × (mid ≡ before ++ map var_of (declared_by_params (params_of part)))
     → derives ≡ option_map (resolved_derives (formals ∷ around_body name)) s.derives
-    → pre ≡ option_map (resolved_predicate [] (formals ∷ around_body name)) s.pre
-    → post ≡ option_map (resolved_predicate (items_of derives) (formals ∷ around_body name)) s.post
+    → pre ≡ option_map (resolved_predicate (in_code types) (formals ∷ around_body name)) s.pre
+    → post ≡ option_map (resolved_predicate (in_annotation types (items_of derives)) (formals ∷ around_body name)) s.post
     → decls ≡ resolved_decls (around_body name) formals (so_many mid types) s.declarations
     → locals ≡ length (variables_by_decls decls)
-    → statements ≡ (resolved_stmts (items_of derives) (around_body name) s.statements (declaring_all formals (declared_by_decls decls)) (length mid + locals)).0
+    → statements ≡ (resolved_stmts types' (items_of derives) (around_body name) s.statements (declaring_all formals (declared_by_decls decls)) (length mid + locals)).0
     → after ≡ mid ++ map var_of (variables_by_decls decls ++ parameters_by_stmts statements)
     → types' ≡ types ++ rows_by_decls decls
     → end_name ≡ s.end_name
@@ -124,13 +124,14 @@ whole name s before mid after types types' first middle end formals part decls d
     let position : length mid + locals ≡ length before + length (ds ++ es) = omega (arith, length_mid, are_locals, both) in
     let decls_are : decls ≡ resolved_decls (around_body name) (declaring_all [] ds) (after_formals (so_many before types) part) s.declarations =
     are_decls ∙ ap (λ r. resolved_decls (around_body name) r (so_many mid types) s.declarations) are_formals
-    ∙ ap (λ n. resolved_decls (around_body name) (declaring_all [] ds) (record { vars = n; types = length types }) s.declarations) length_mid in (
+    ∙ ap (λ n. resolved_decls (around_body name) (declaring_all [] ds) (record { vars = n; types = types }) s.declarations) length_mid in (
       sub_is name s (so_many before types) part decls derives pre post statements end_name vars (middle - first) locals
           (is_derives ∙ ap (λ r. option_map (resolved_derives (r ∷ around_body name)) s.derives) are_formals)
-          (is_pre ∙ ap (λ r. option_map (resolved_predicate [] (r ∷ around_body name)) s.pre) are_formals)
-          (is_post ∙ ap (λ r. option_map (resolved_predicate (items_of derives) (r ∷ around_body name)) s.post) are_formals)
-          (are_statements ∙ ap (λ r. (resolved_stmts (items_of derives) (around_body name) s.statements r (length mid + locals)).0) region
-          ∙ ap (λ n. (resolved_stmts (items_of derives) (around_body name) s.statements (declaring_all [] (ds ++ declared_by_decls decls)) n).0) position)
+          (is_pre ∙ ap (λ r. option_map (resolved_predicate (in_code types) (r ∷ around_body name)) s.pre) are_formals)
+          (is_post ∙ ap (λ r. option_map (resolved_predicate (in_annotation types (items_of derives)) (r ∷ around_body name)) s.post) are_formals)
+          (are_statements ∙ ap (λ rows. (resolved_stmts rows (items_of derives) (around_body name) s.statements (declaring_all formals (declared_by_decls decls)) (length mid + locals)).0) are_types
+          ∙ ap (λ r. (resolved_stmts (types ++ rows_by_decls decls) (items_of derives) (around_body name) s.statements r (length mid + locals)).0) region
+          ∙ ap (λ n. (resolved_stmts (types ++ rows_by_decls decls) (items_of derives) (around_body name) s.statements (declaring_all [] (ds ++ declared_by_decls decls)) n).0) position)
           is_end_name ids count are_locals
           ∙ sub_is_resolved name s (so_many before types) part decls is_part decls_are,
       made,

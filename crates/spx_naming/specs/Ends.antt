@@ -4,13 +4,12 @@ use Rattle.spx_core.specs.declared.entity.VarId.{VarId}
 use Rattle.spx_core.specs.declared.dependency.CoreDerivesItem.{CoreDerivesItem}
 use Rattle.spx_core.specs.Dependency.{is_exported_by, is_imported_by}
 use Rattle.spx_core.specs.Mirror.VarSets.{holds}
-use Rattle.spx_naming.specs.declared.changed.Ends.{Ends}
 
 pub record AreEndsOf (items : List CoreDerivesItem) (imports exports : List ℕ) : Type 0 where
   pub imported : (v : VarId) → holds imports v ≡ is_imported_by items v
   pub exported : (v : VarId) → holds exports v ≡ is_exported_by items v
 
--- the sets are those of the items; where there are none, there is no item
-abbrev pub AreKnown : List CoreDerivesItem → Option Ends → Type 0
-AreKnown items None = items ≡ []
-AreKnown items (Some ends) = AreEndsOf items ends.imports ends.exports
+-- the items of a relation, if there is one
+abbrev pub items_if_any : Option (List CoreDerivesItem) → List CoreDerivesItem
+items_if_any (Some items) = items
+items_if_any None = []

@@ -1,4 +1,6 @@
-pub mod Counting
+pub mod Before
 pub mod Ends
+pub mod Found
 pub mod Ids
+pub mod Steps
 pub mod Units

@@ -1,5 +1,5 @@
 // The variables of which an annotation may name the value on entry (Barnes, `~`).
-ghost use Rattle.std.specs.Prelude.{◌≡◌, [], IfOk};
+ghost use Rattle.std.specs.Prelude.{◌≡◌, IfOk};
 ghost use Rattle.spx_core.specs.Dependency.{items_of};
 ghost use Rattle.spx_core.specs.Resolved.{is_changed_by};
 
@@ -14,23 +14,27 @@ struct Ends {
     exports: VarSet,
 }
 
-/// The items of a dependency relation with the sets of their imports and exports, if there are any. Contracts see the items.
+/// The items of a dependency relation with the sets of their imports and exports. Contracts see the items.
 #[derive(Drop)]
 pub struct Changed<'a> {
     items: &'a [CoreDerivesItem],
-    ends: Option<Ends>,
+    ends: Ends,
 }
 
 impl<'a> Model for Changed<'a> {
+    ghost use Rattle.std.specs.Coded.{codes};
     ghost use Rattle.std.specs.Prelude.{List};
+    ghost use Rattle.spx_tree.specs.contracts.expression.Expr as written;
     ghost use Rattle.spx_core.specs.declared.dependency.CoreDerivesItem.{CoreDerivesItem};
-    ghost use Rattle.spx_naming.specs.Ends.{AreKnown};
+    ghost use Rattle.spx_naming.specs.Ends.{AreEndsOf};
 
     ghost Value = { List CoreDerivesItem };
 
+    ghost coded = { Prim.hlevel (codes, written.the_row.coded) };
+
     ghost view = { λ c. c.items.now };
 
-    ghost invariant = { λ c. AreKnown c.items.now c.ends };
+    ghost invariant = { λ c. AreEndsOf c.items.now c.ends.imports c.ends.exports };
 }
 
 /// The items of a relation, if there is one.
@@ -44,16 +48,6 @@ fn items_of(derives: &Option<CoreDerives>) -> &[CoreDerivesItem]
 }
 
 impl<'a> Changed<'a> {
-    /// Without items nothing is changed.
-    pub fn nothing() -> Changed<'a>
-        ensures { result ≡ [] }
-    {
-        Changed {
-            items: &[],
-            ends: None,
-        }
-    }
-
     /// What a relation changes.
     pub fn by(alloc: Global, derives: &'a Option<CoreDerives>) -> Result<Changed<'a>, AllocError>
         ensures { IfOk result (λ changed. changed ≡ items_of derives.now) }
@@ -61,7 +55,7 @@ impl<'a> Changed<'a> {
         let items = items_of(derives);
         let imports = VarSet::imported_by(alloc, items)?;
         let exports = VarSet::exported_by(alloc, items)?;
-        let ends = Some(Ends { imports, exports });
+        let ends = Ends { imports, exports };
         Ok(Changed { items, ends })
     }
 
@@ -69,10 +63,9 @@ impl<'a> Changed<'a> {
     pub fn has(&self, name: &CoreName) -> bool
         ensures { result ≡ is_changed_by self.now name.now }
     {
-        match (variable_of(name.entity), &self.ends) {
-            (Some(var), Some(ends)) => ends.imports.contains(var) && ends.exports.contains(var),
-            (Some(_), None) => false,
-            (None, _) => false,
+        match variable_of(name.entity) {
+            Some(var) => self.ends.imports.contains(var) && self.ends.exports.contains(var),
+            None => false,
         }
     }
 }

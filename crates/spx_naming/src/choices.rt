@@ -5,6 +5,7 @@ ghost use Rattle.spx_scope.specs.Seen.{seen};
 
 use crate::expression::resolve_static;
 use crate::meaning::chosen_by;
+use crate::scene::Scene;
 use spx_core::{CoreChoice, CoreExpr};
 use spx_scope::Scope;
 use spx_tree::{Choice, Expr};
@@ -15,12 +16,13 @@ use std::alloc::{AllocError, Global};
 fn resolve_upper(
     alloc: Global,
     high: &Option<Boxed<Expr>>,
+    scene: &Scene<'_>,
     scope: &Scope<'_>,
 ) -> Result<Option<Boxed<CoreExpr>>, AllocError>
-    ensures { IfOk result (λ r. r ≡ option_map (resolved_static (seen scope.now)) high.now) }
+    ensures { IfOk result (λ r. r ≡ option_map (resolved_static scene.now (seen scope.now)) high.now) }
 {
     match high {
-        Some(high) => Ok(Some(resolve_static(alloc, high.get(), scope)?)),
+        Some(high) => Ok(Some(resolve_static(alloc, scene, high.get(), scope)?)),
         None => Ok(None),
     }
 }
@@ -29,12 +31,13 @@ fn resolve_upper(
 fn resolve_choice(
     alloc: Global,
     choice: &Choice,
+    scene: &Scene<'_>,
     scope: &Scope<'_>,
 ) -> Result<CoreChoice, AllocError>
-    ensures { IfOk result (λ r. r ≡ resolved_choice (seen scope.now) choice.now) }
+    ensures { IfOk result (λ r. r ≡ resolved_choice scene.now (seen scope.now) choice.now) }
 {
-    let low = resolve_static(alloc, choice.low.get(), scope)?;
-    let high = resolve_upper(alloc, &choice.high, scope)?;
+    let low = resolve_static(alloc, scene, choice.low.get(), scope)?;
+    let high = resolve_upper(alloc, &choice.high, scene, scope)?;
     let span = chosen_by(low.get(), &high);
     Ok(CoreChoice { low, high, span })
 }
@@ -42,13 +45,14 @@ fn resolve_choice(
 fn resolve_choices(
     alloc: Global,
     choices: &[Choice],
+    scene: &Scene<'_>,
     scope: &Scope<'_>,
 ) -> Result<Items<CoreChoice>, AllocError>
-    ensures { IfOk result (λ r. r ≡ map (resolved_choice (seen scope.now)) choices.now) }
+    ensures { IfOk result (λ r. r ≡ map (resolved_choice scene.now (seen scope.now)) choices.now) }
 {
     let mut resolved = Items::new(alloc);
     for choice in choices {
-        resolved.push(resolve_choice(alloc, choice, scope)?)?;
+        resolved.push(resolve_choice(alloc, choice, scene, scope)?)?;
     }
     Ok(resolved)
 }
@@ -56,14 +60,15 @@ fn resolve_choices(
 /// The choices of an alternative, unless it is for `others`.
 pub fn resolve_listed(
     alloc: Global,
-    choices: &Option<Boxed<Items<Choice>>>,
+    choices: &Option<Items<Choice>>,
+    scene: &Scene<'_>,
     scope: &Scope<'_>,
 ) -> Result<Option<Items<CoreChoice>>, AllocError>
-    ensures { IfOk result (λ r. r ≡ option_map (map (resolved_choice (seen scope.now))) choices.now) }
+    ensures { IfOk result (λ r. r ≡ option_map (map (resolved_choice scene.now (seen scope.now))) choices.now) }
 {
     match choices {
         Some(choices) => {
-            let resolved = resolve_choices(alloc, choices.get().as_slice(), scope)?;
+            let resolved = resolve_choices(alloc, choices.as_slice(), scene, scope)?;
             Ok(Some(resolved))
         }
         None => Ok(None),

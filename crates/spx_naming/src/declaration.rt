@@ -1,17 +1,18 @@
 // Formals and declarations: each sees those before it, and not itself.
 ghost use Rattle.std.specs.Prelude.{◌≡◌, ◌++◌, IfOk, length, map, option_map};
 ghost use Rattle.spx_core.specs.declared.entity.Meaning.TheVariants as meaning;
-ghost use Rattle.spx_core.specs.Resolved.{around_names, declared_by, declared_by_decls, declared_by_params, declaring_all, defining_all, resolved_decl, resolved_decls, resolved_param, resolved_params, resolved_reference, resolved_static, resolved_type, rows_by, rows_by_decls, var_of, variables_by, variables_by_decls, variables_of};
+ghost use Rattle.spx_core.specs.Resolved.{around_names, declared_by, declared_by_decls, declared_by_params, declaring_all, defining_all, in_declaration, resolved_decl, resolved_decls, resolved_param, resolved_params, resolved_reference, resolved_static, resolved_type, rows_by, rows_by_decls, var_of, variables_by, variables_by_decls, variables_of};
 ghost use Rattle.spx_scope.specs.Seen.{seen};
-ghost use Rattle.spx_naming.specs.Counting.{counts_of};
+ghost use Rattle.spx_naming.specs.Before.{before_in};
 
 use crate::composites::{resolve_array, resolve_record};
 use crate::meaning::{local_kind, mode_of, object_of};
 use crate::names::declare_all;
 use crate::parts::{resolve_initial, resolve_type_name};
+use crate::scene::Scene;
 use crate::tables::{Tables, add_variables};
 use crate::types::{resolve_constants, resolve_enumeration, resolve_integer, resolve_subtype};
-use spx_core::{CoreDecl, CoreParam, Defining, Meaning, Object, Var, VarKind};
+use spx_core::{CoreDecl, CoreParam, Defining, Meaning, Object, TypeRow, Var, VarKind};
 use spx_scope::{Region, Scope};
 use spx_tree::{Decl, Expr, Identifier, Name, Param, TypeDef};
 use sqlite_items::{Boxed, Items};
@@ -75,6 +76,7 @@ pub fn resolve_params(
 
 fn resolve_variables(
     alloc: Global,
+    types: &[TypeRow],
     region: &mut Region,
     vars: &mut Items<Var>,
     outer: &Scope<'_>,
@@ -82,10 +84,11 @@ fn resolve_variables(
     type_name: &Name,
     value: &Option<Boxed<Expr>>,
 ) -> Result<CoreDecl, AllocError>
-    ensures { IfOk result (λ d. (d ≡ variables_of region.old (length vars.old) names.now (resolved_reference (around_names (seen outer.now) region.old names.now) type_name.now) (option_map (resolved_static (around_names (seen outer.now) region.old names.now)) value.now)) × (region.new ≡ declaring_all region.old (declared_by d)) × (vars.new ≡ vars.old ++ map var_of (variables_by d))) }
+    ensures { IfOk result (λ d. (d ≡ variables_of region.old (length vars.old) names.now (resolved_reference (around_names (seen outer.now) region.old names.now) type_name.now) (option_map (resolved_static (in_declaration types.now) (around_names (seen outer.now) region.old names.now)) value.now)) × (region.new ≡ declaring_all region.old (declared_by d)) × (vars.new ≡ vars.old ++ map var_of (variables_by d))) }
 {
     let type_name = resolve_type_name(alloc, region, outer, names, type_name)?;
-    let value = resolve_initial(alloc, region, outer, names, value)?;
+    let scene = Scene::in_declaration(types);
+    let value = resolve_initial(alloc, &scene, region, outer, names, value)?;
     let object = object_of(local_kind(&value), type_name.get());
     let names = declare_variables(alloc, region, vars, outer, object, names)?;
     let names = Boxed::new(alloc, names)?;
@@ -101,7 +104,7 @@ fn resolve_type(
     name: &Identifier,
     definition: &TypeDef,
 ) -> Result<CoreDecl, AllocError>
-    ensures decl { IfOk result (λ d. d ≡ resolved_type (seen outer.now) region.old (counts_of tables.old) name.now definition.now) }
+    ensures decl { IfOk result (λ d. d ≡ resolved_type (seen outer.now) region.old (before_in tables.old) name.now definition.now) }
     ensures region { IfOk result (λ d. region.new ≡ declaring_all region.old (declared_by d)) }
     ensures vars { IfOk result (λ d. tables.new.vars ≡ tables.old.vars ++ map var_of (variables_by d)) }
     ensures types { IfOk result (λ d. tables.new.types ≡ tables.old.types ++ rows_by d) }
@@ -130,20 +133,23 @@ fn resolve_decl(
     outer: &Scope<'_>,
     decl: &Decl,
 ) -> Result<CoreDecl, AllocError>
-    ensures decl { IfOk result (λ d. d ≡ resolved_decl (seen outer.now) region.old (counts_of tables.old) decl.now) }
+    ensures decl { IfOk result (λ d. d ≡ resolved_decl (seen outer.now) region.old (before_in tables.old) decl.now) }
     ensures region { IfOk result (λ d. region.new ≡ declaring_all region.old (declared_by d)) }
     ensures vars { IfOk result (λ d. tables.new.vars ≡ tables.old.vars ++ map var_of (variables_by d)) }
     ensures types { IfOk result (λ d. tables.new.types ≡ tables.old.types ++ rows_by d) }
 {
     match decl {
         Decl::Variables(names, type_name, value) => {
+            let types = tables.types.as_slice();
             let vars = &mut tables.vars;
             let names = names.get().as_slice();
-            resolve_variables(alloc, region, vars, outer, names, type_name.get(), value)
+            let type_name = type_name.get();
+            resolve_variables(alloc, types, region, vars, outer, names, type_name, value)
         }
         Decl::Constants(names, type_name, value) => {
+            let types = tables.types.as_slice();
             let names = names.get().as_slice();
-            resolve_constants(alloc, region, outer, names, type_name, value.get())
+            resolve_constants(alloc, types, region, outer, names, type_name, value.get())
         }
         Decl::FullType(name, definition) => {
             resolve_type(alloc, region, tables, outer, name.get(), definition.get())
@@ -163,7 +169,7 @@ pub fn resolve_decls(
     outer: &Scope<'_>,
     decls: &[Decl],
 ) -> Result<Items<CoreDecl>, AllocError>
-    ensures decls { IfOk result (λ ds. ds ≡ resolved_decls (seen outer.now) region.old (counts_of tables.old) decls.now) }
+    ensures decls { IfOk result (λ ds. ds ≡ resolved_decls (seen outer.now) region.old (before_in tables.old) decls.now) }
     ensures region { IfOk result (λ ds. region.new ≡ declaring_all region.old (declared_by_decls ds)) }
     ensures vars { IfOk result (λ ds. tables.new.vars ≡ tables.old.vars ++ map var_of (variables_by_decls ds)) }
     ensures types { IfOk result (λ ds. tables.new.types ≡ tables.old.types ++ rows_by_decls ds) }

@@ -1,36 +1,21 @@
 // Names and expressions.
-ghost use Rattle.std.specs.Prelude.{◌≡◌, [], ◌∷◌, IfOk, map};
+ghost use Rattle.std.specs.Prelude.{◌≡◌, ◌∷◌, IfOk, map};
 ghost use Rattle.spx_core.specs.declared.expression.CoreExpr.TheVariants as expr;
-ghost use Rattle.spx_core.specs.declared.name.Step.TheVariants as step;
-ghost use Rattle.spx_core.specs.Resolved.{entry_of, resolved_condition, resolved_expr, resolved_function, resolved_in, resolved_name, resolved_reference, resolved_static, resolved_value};
+ghost use Rattle.spx_core.specs.Resolved.{in_code, resolved_condition, resolved_expr, resolved_in, resolved_name, resolved_reference, resolved_static, resolved_target, resolved_value};
+ghost use Rattle.spx_core.specs.WrittenExpressions.{erased_expr};
 ghost use Rattle.spx_scope.specs.Seen.{seen};
 
-use crate::changed::Changed;
+use crate::scene::Scene;
+use crate::steps::Parts;
+use crate::targets::target_of;
+use crate::values::{copy_parts, value_of_path};
 use spx_context::in_context;
-use spx_core::{CoreExpr, CoreFunction, CoreName, ExprType, INTEGER, Reference, Step};
+use spx_core::{CoreExpr, CoreName, ExprType, INTEGER, Reference, Target, TypeRow};
 use spx_scope::{Region, Scope};
 use spx_text::Place;
-use spx_tree::{Expr, Function, Identifier, MemberOp, Name};
+use spx_tree::{Expr, MemberOp, Name, Path};
 use sqlite_items::{Boxed, Items};
 use std::alloc::{AllocError, Global};
-
-fn resolve_name(alloc: Global, name: &Identifier, scope: &Scope<'_>) -> Result<CoreName, AllocError>
-    ensures { IfOk result (λ r. r ≡ resolved_name (seen scope.now) name.now) }
-{
-    Ok(CoreName {
-        name: name.copy(alloc)?,
-        entity: scope.look_up(&name.text),
-    })
-}
-
-fn attribute_way(alloc: Global, designator: &Identifier) -> Result<Items<Step>, AllocError>
-    ensures { IfOk result (λ way. way ≡ step.Attribute designator.now ∷ []) }
-{
-    let designator = designator.copy(alloc)?;
-    let mut way = Items::new(alloc);
-    way.push(Step::Attribute(designator))?;
-    Ok(way)
-}
 
 /// A name where a variable or a type is needed.
 pub fn resolve_reference(
@@ -40,18 +25,11 @@ pub fn resolve_reference(
 ) -> Result<Reference, AllocError>
     ensures { IfOk result (λ r. r ≡ resolved_reference (seen scope.now) name.now) }
 {
-    match name {
-        Name::Simple(name) => {
-            let root = resolve_name(alloc, name, scope)?;
-            let way = Items::new(alloc);
-            Ok(Reference { root, way })
-        }
-        Name::Attribute(prefix, designator) => {
-            let way = attribute_way(alloc, designator)?;
-            let root = resolve_name(alloc, prefix, scope)?;
-            Ok(Reference { root, way })
-        }
-    }
+    let entity = scope.look_up(&name.path.root.text);
+    let Name { path, parts } = name.copy(alloc)?;
+    let Path { root: name, steps } = path;
+    let root = CoreName { name, entity };
+    Ok(Reference { root, steps, parts })
 }
 
 /// Names where variables are needed.
@@ -69,64 +47,20 @@ pub fn resolve_references(
     Ok(resolved)
 }
 
+/// A name where a value is needed. Its expressions are these as they are written, and these resolved.
 fn resolve_value(
     alloc: Global,
-    name: &Name,
+    path: &Path,
+    written: &[Expr],
+    parts: Parts,
+    scene: &Scene<'_>,
     scope: &Scope<'_>,
 ) -> Result<Boxed<CoreExpr>, AllocError>
-    ensures { IfOk result (λ r. r ≡ resolved_value (seen scope.now) name.now) }
+    requires { map erased_expr parts ≡ written.now }
+    ensures { IfOk result (λ r. r ≡ resolved_value scene.now (seen scope.now) path.now parts) }
 {
-    match name {
-        Name::Simple(name) => {
-            let name = resolve_name(alloc, name, scope)?;
-            Boxed::new(alloc, CoreExpr::Name(name))
-        }
-        Name::Attribute(prefix, designator) => {
-            let prefix = resolve_name(alloc, prefix, scope)?;
-            let designator = designator.copy(alloc)?;
-            Boxed::new(alloc, CoreExpr::Attribute(prefix, designator))
-        }
-    }
-}
-
-fn resolve_function(
-    alloc: Global,
-    function: &Function,
-    scope: &Scope<'_>,
-) -> Result<CoreFunction, AllocError>
-    ensures { IfOk result (λ r. r ≡ resolved_function (seen scope.now) function.now) }
-{
-    let name = resolve_name(alloc, &function.name, scope)?;
-    let form = function.form.copy(alloc)?;
-    Ok(CoreFunction { name, form })
-}
-
-/// The value that a variable has on entry.
-fn resolve_entry(
-    alloc: Global,
-    name: &Identifier,
-    changed: &Changed<'_>,
-    scope: &Scope<'_>,
-) -> Result<Boxed<CoreExpr>, AllocError>
-    ensures { IfOk result (λ r. r ≡ entry_of changed.now (resolved_name (seen scope.now) name.now)) }
-{
-    let name = resolve_name(alloc, name, scope)?;
-    let allowed = changed.has(&name);
-    Boxed::new(alloc, CoreExpr::Entry(name, allowed))
-}
-
-/// A function with its operand.
-fn resolve_applied(
-    alloc: Global,
-    function: &Function,
-    place: Place,
-    operand: Boxed<CoreExpr>,
-    scope: &Scope<'_>,
-) -> Result<Boxed<CoreExpr>, AllocError>
-    ensures { IfOk result (λ r. r ≡ expr.Applied (resolved_function (seen scope.now) function.now) place operand) }
-{
-    let function = resolve_function(alloc, function, scope)?;
-    Boxed::new(alloc, CoreExpr::Applied(function, place, operand))
+    let denoted = scope.look_up(&path.root.text);
+    value_of_path(alloc, scene, denoted, path, written, parts)
 }
 
 /// A membership test with a type.
@@ -135,92 +69,145 @@ fn resolve_in_type(
     op: MemberOp,
     place: Place,
     tested: Boxed<CoreExpr>,
-    name: &Name,
+    path: &Path,
+    parts: &[Expr],
     scope: &Scope<'_>,
 ) -> Result<Boxed<CoreExpr>, AllocError>
-    ensures { IfOk result (λ r. r ≡ expr.InType op place tested (resolved_reference (seen scope.now) name.now)) }
+    ensures { IfOk result (λ r. r ≡ expr.InType op place tested (record { root = resolved_name (seen scope.now) path.now.root; steps = path.now.steps; parts = parts.now })) }
 {
-    let name = resolve_reference(alloc, name, scope)?;
-    Boxed::new(alloc, CoreExpr::InType(op, place, tested, name))
+    let entity = scope.look_up(&path.root.text);
+    let parts = copy_parts(alloc, parts)?;
+    let Path { root: name, steps } = path.copy(alloc)?;
+    let root = CoreName { name, entity };
+    let type_name = Reference { root, steps, parts };
+    Boxed::new(alloc, CoreExpr::InType(op, place, tested, type_name))
 }
 
-/// An expression with what its names denote. The values on entry of what is changed may be named.
+/// The expressions of a name.
+#[cycle(resolve_in)]
+fn resolve_parts(
+    alloc: Global,
+    parts: &[Expr],
+    scene: &Scene<'_>,
+    scope: &Scope<'_>,
+) -> Result<Parts, AllocError>
+    ensures { IfOk result (λ r. r ≡ map (resolved_in scene.now (seen scope.now)) parts.now) }
+{
+    let mut resolved = Vec::new(alloc);
+    for part in parts {
+        resolved.push(resolve_in(alloc, part, scene, scope)?)?;
+    }
+    Ok(Parts::new(resolved))
+}
+
+/// An expression with what its names denote.
+#[cycle(resolve_in)]
 fn resolve_in(
     alloc: Global,
     expr: &Expr,
-    changed: &Changed<'_>,
+    scene: &Scene<'_>,
     scope: &Scope<'_>,
 ) -> Result<Boxed<CoreExpr>, AllocError>
-    ensures { IfOk result (λ r. r ≡ resolved_in changed.now (seen scope.now) expr.now) }
+    ensures { IfOk result (λ r. r ≡ resolved_in scene.now (seen scope.now) expr.now) }
 {
     match expr {
         Expr::Number(value, place) => Boxed::new(alloc, CoreExpr::Number(*value, *place)),
-        Expr::Name(name) => resolve_value(alloc, name, scope),
-        Expr::Entry(name) => resolve_entry(alloc, name, changed, scope),
-        Expr::Applied(function, place, operand) => {
-            let operand = resolve_in(alloc, operand.get(), changed, scope)?;
-            resolve_applied(alloc, function, *place, operand, scope)
+        Expr::Name(path, parts) => {
+            let written = parts.as_slice();
+            let parts = resolve_parts(alloc, written, scene, scope)?;
+            resolve_value(alloc, path, written, parts, scene, scope)
         }
         Expr::Parenthesized(place, inner) => {
-            let inner = resolve_in(alloc, inner.get(), changed, scope)?;
+            let inner = resolve_in(alloc, inner.get(), scene, scope)?;
             Boxed::new(alloc, CoreExpr::Parenthesized(*place, inner))
         }
         Expr::Prefix(op, place, operand) => {
-            let operand = resolve_in(alloc, operand.get(), changed, scope)?;
+            let operand = resolve_in(alloc, operand.get(), scene, scope)?;
             Boxed::new(alloc, CoreExpr::Prefix(*op, *place, operand))
         }
         Expr::Infix(op, place, left, right) => {
-            let left = resolve_in(alloc, left.get(), changed, scope)?;
-            let right = resolve_in(alloc, right.get(), changed, scope)?;
+            let left = resolve_in(alloc, left.get(), scene, scope)?;
+            let right = resolve_in(alloc, right.get(), scene, scope)?;
             Boxed::new(alloc, CoreExpr::Infix(*op, *place, left, right))
         }
-        Expr::InType(op, place, tested, name) => {
-            let tested = resolve_in(alloc, tested.get(), changed, scope)?;
-            resolve_in_type(alloc, *op, *place, tested, name, scope)
+        Expr::InType(op, place, tested, path, parts) => {
+            let tested = resolve_in(alloc, tested.get(), scene, scope)?;
+            let parts = parts.as_slice();
+            resolve_in_type(alloc, *op, *place, tested, path, parts, scope)
         }
         Expr::InRange(op, place, tested, low, high) => {
-            let tested = resolve_in(alloc, tested.get(), changed, scope)?;
-            let low = resolve_in(alloc, low.get(), changed, scope)?;
-            let high = resolve_in(alloc, high.get(), changed, scope)?;
+            let tested = resolve_in(alloc, tested.get(), scene, scope)?;
+            let low = resolve_in(alloc, low.get(), scene, scope)?;
+            let high = resolve_in(alloc, high.get(), scene, scope)?;
             Boxed::new(alloc, CoreExpr::InRange(*op, *place, tested, low, high))
         }
     }
 }
 
-/// An expression of code, where it meets this type. No value on entry may be named.
+/// What an assignment of code names.
+pub fn resolve_target(
+    alloc: Global,
+    name: &Name,
+    types: &[TypeRow],
+    scope: &Scope<'_>,
+) -> Result<Boxed<Target>, AllocError>
+    ensures { IfOk result (λ r. r ≡ resolved_target types.now (seen scope.now) name.now) }
+{
+    let written = name.parts.as_slice();
+    let parts = resolve_parts(alloc, written, &Scene::in_code(types), scope)?;
+    let denoted = scope.look_up(&name.path.root.text);
+    target_of(alloc, types, denoted, &name.path, written, parts)
+}
+
+/// An expression where it meets this type.
 pub fn resolve_expr(
     alloc: Global,
+    scene: &Scene<'_>,
     of: ExprType,
     expr: &Expr,
     scope: &Scope<'_>,
 ) -> Result<Boxed<CoreExpr>, AllocError>
-    ensures { IfOk result (λ r. r ≡ resolved_expr of (seen scope.now) expr.now) }
+    ensures { IfOk result (λ r. r ≡ resolved_expr scene.now of (seen scope.now) expr.now) }
 {
-    let named = resolve_in(alloc, expr, &Changed::nothing(), scope)?;
+    let named = resolve_in(alloc, expr, scene, scope)?;
     in_context(alloc, of, named)
+}
+
+/// An expression of code, where it meets this type.
+pub fn resolve_code(
+    alloc: Global,
+    types: &[TypeRow],
+    of: ExprType,
+    expr: &Expr,
+    scope: &Scope<'_>,
+) -> Result<Boxed<CoreExpr>, AllocError>
+    ensures { IfOk result (λ r. r ≡ resolved_expr (in_code types.now) of (seen scope.now) expr.now) }
+{
+    resolve_expr(alloc, &Scene::in_code(types), of, expr, scope)
 }
 
 /// An expression that has to be static.
 pub fn resolve_static(
     alloc: Global,
+    scene: &Scene<'_>,
     expr: &Expr,
     scope: &Scope<'_>,
 ) -> Result<Boxed<CoreExpr>, AllocError>
-    ensures { IfOk result (λ r. r ≡ resolved_static (seen scope.now) expr.now) }
+    ensures { IfOk result (λ r. r ≡ resolved_static scene.now (seen scope.now) expr.now) }
 {
-    resolve_expr(alloc, ExprType::Universal, expr, scope)
+    resolve_expr(alloc, scene, ExprType::Universal, expr, scope)
 }
 
-/// A condition, a selector or a predicate, in which the values on entry of what is changed may be named.
+/// A condition, a selector or a predicate.
 pub fn resolve_condition(
     alloc: Global,
     expr: &Expr,
-    changed: &Changed<'_>,
+    scene: &Scene<'_>,
     scope: &Scope<'_>,
 ) -> Result<Boxed<CoreExpr>, AllocError>
-    ensures { IfOk result (λ r. r ≡ resolved_condition changed.now (seen scope.now) expr.now) }
+    ensures { IfOk result (λ r. r ≡ resolved_condition scene.now (seen scope.now) expr.now) }
 {
-    let named = resolve_in(alloc, expr, changed, scope)?;
+    let named = resolve_in(alloc, expr, scene, scope)?;
     in_context(alloc, ExprType::Of(INTEGER.base), named)
 }
 
@@ -228,15 +215,12 @@ pub fn resolve_condition(
 pub fn resolve_inside(
     alloc: Global,
     expr: &Expr,
+    types: &[TypeRow],
     region: &Region,
     outer: &Scope<'_>,
 ) -> Result<Boxed<CoreExpr>, AllocError>
-    ensures { IfOk result (λ r. r ≡ resolved_condition [] (region.now ∷ seen outer.now) expr.now) }
+    ensures { IfOk result (λ r. r ≡ resolved_condition (in_code types.now) (region.now ∷ seen outer.now) expr.now) }
 {
-    resolve_condition(
-        alloc,
-        expr,
-        &Changed::nothing(),
-        &Scope::inside(region, outer),
-    )
+    let scope = Scope::inside(region, outer);
+    resolve_condition(alloc, expr, &Scene::in_code(types), &scope)
 }

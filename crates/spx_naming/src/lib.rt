@@ -14,10 +14,14 @@ mod expression;
 mod meaning;
 mod names;
 mod parts;
+mod scene;
 mod schemes;
 mod statement;
+mod steps;
 mod tables;
+mod targets;
 mod types;
 mod unit;
+mod values;
 
 pub use unit::make_program;

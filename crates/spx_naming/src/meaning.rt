@@ -1,10 +1,13 @@
 // What declared names denote (Ada 95 RM 3.2, 3.3, 3.5).
 ghost use Rattle.std.specs.Prelude.{◌≡◌};
-ghost use Rattle.spx_core.specs.Resolved.{bounded, chosen_by, composite_type, constant_of, enumeration_type, integer_base, integer_type, is_in_integer, local_kind, mode_of, narrowed, object_of, static_value, value_or_zero};
+ghost use Rattle.spx_core.specs.Resolved.{bounded, chosen_by, composite_type, constant_of, enumeration_type, integer_base, integer_type, is_in_integer, local_kind, mode_of, narrowed, object_of, static_value, type_of_target, value_or_zero};
+ghost use Rattle.spx_core.specs.Judged.{part_type};
+ghost use Rattle.spx_naming.specs.Steps.{step_type};
 
+use spx_context::type_given;
 use spx_core::{
-    BaseType, Class, CoreExpr, CoreRange, Entity, INTEGER, Mode, Object, Reference, Span, Subtype,
-    TypeId, UNIVERSAL, VarKind, WIDEST_FIRST, WIDEST_LAST,
+    BaseType, Class, CoreExpr, CoreRange, Entity, ExprType, INTEGER, Mode, Object, PartStep,
+    Reference, Span, Subtype, Target, TypeId, UNIVERSAL, VarKind, WIDEST_FIRST, WIDEST_LAST,
 };
 use spx_tree::WrittenMode;
 use spx_types::{judge, subtype_of};
@@ -205,5 +208,38 @@ pub fn constant_of(type_name: &Option<Boxed<Reference>>, value: Option<i128>) ->
     match type_name {
         None => Entity::NamedNumber(value),
         Some(type_name) => Entity::Constant(subtype_of(type_name.get().root.entity), value),
+    }
+}
+
+/// The type of the part to which a step leads.
+fn step_type(step: &PartStep) -> Subtype
+    ensures { result ≡ step_type step.now }
+{
+    match step {
+        PartStep::Index(_, _, indexing) => indexing.get().element,
+        PartStep::Field(_, selection) => selection.get().field,
+    }
+}
+
+/// The type of the last part on a way from an object of this type.
+fn part_type(subtype: Subtype, way: &[PartStep]) -> Subtype
+    ensures { result ≡ part_type subtype way.now }
+{
+    let mut of = subtype;
+    for step in way {
+        of = step_type(step);
+    }
+    of
+}
+
+/// The type that the right side of an assignment meets.
+pub fn type_of_target(target: &Target) -> ExprType
+    ensures { result ≡ type_of_target target.now }
+{
+    match target.root.entity {
+        Some(Entity::Variable(_, object)) => {
+            ExprType::Of(part_type(object.subtype, target.way.as_slice()).base)
+        }
+        other => type_given(other),
     }
 }

@@ -1,18 +1,17 @@
 // The schemes of loops, and the parameters that they declare (Ada 95 RM 5.5).
 ghost use Rattle.std.specs.Prelude.{◌≡◌, ◌∷◌, ◌++◌, [], IfOk, length, map};
 ghost use Rattle.spx_core.specs.declared.entity.VarKind.TheVariants.{LoopParameter};
-ghost use Rattle.spx_core.specs.Resolved.{declared_by_count, declared_by_scheme, declaring, declaring_all, defining, object_of, resolved_count, resolved_scheme, var_of, variable_at};
+ghost use Rattle.spx_core.specs.Resolved.{declared_by_count, declared_by_scheme, declaring, declaring_all, defining, in_code, object_of, resolved_count, resolved_scheme, var_of, variable_at};
 ghost use Rattle.spx_scope.specs.Seen.{seen};
 
 use crate::expression::resolve_inside;
 use crate::meaning::object_of;
 use crate::names::declare;
-use crate::parts::{resolve_constraint, resolve_type_name};
+use crate::parts::{resolve_bounds, resolve_type_name};
+use crate::scene::Scene;
 use crate::tables::add_variables;
 use spx_context::type_given;
-use spx_core::{
-    CoreCount, CoreRange, CoreScheme, Defining, Entity, Reference, Var, VarId, VarKind,
-};
+use spx_core::{CoreCount, CoreScheme, Defining, Entity, Reference, TypeRow, Var, VarId, VarKind};
 use spx_scope::{Region, Scope};
 use spx_tree::{Count, Identifier, Scheme};
 use sqlite_items::{Boxed, Items};
@@ -37,31 +36,23 @@ fn declare_parameter(
     Ok(defined)
 }
 
-/// The bounds of a loop, out of their box.
-fn in_place(bounds: Option<Boxed<CoreRange>>) -> Option<CoreRange>
-    ensures { result ≡ bounds }
-{
-    match bounds {
-        Some(range) => Some(range.into_inner()),
-        None => None,
-    }
-}
-
 /// The parameter of a loop. Its name is hidden in what is said of it, and declared from then on.
 fn resolve_count(
     alloc: Global,
     count: &Count,
+    types: &[TypeRow],
     region: &mut Region,
     vars: &mut Items<Var>,
     outer: &Scope<'_>,
 ) -> Result<Boxed<CoreCount>, AllocError>
-    ensures { IfOk result (λ c. (c ≡ resolved_count (seen outer.now) region.old (length vars.old) count.now) × (region.new ≡ declaring region.old (declared_by_count c)) × (vars.new ≡ vars.old ++ map var_of (declared_by_count c ∷ []))) }
+    ensures { IfOk result (λ c. (c ≡ resolved_count (in_code types.now) (seen outer.now) region.old (length vars.old) count.now) × (region.new ≡ declaring region.old (declared_by_count c)) × (vars.new ≡ vars.old ++ map var_of (declared_by_count c ∷ []))) }
 {
     let parameter = VarId(vars.len());
     let hidden = slice::from_ref(&count.name);
     let type_name = resolve_type_name(alloc, region, outer, hidden, &count.type_name)?;
     let of = type_given(type_name.get().root.entity);
-    let bounds = resolve_constraint(alloc, of, region, outer, hidden, &count.bounds)?;
+    let scene = Scene::in_code(types);
+    let bounds = resolve_bounds(alloc, &scene, of, region, outer, hidden, &count.bounds)?;
     let defined = declare_parameter(alloc, region, vars, outer, type_name.get(), &count.name)?;
     Boxed::new(
         alloc,
@@ -73,7 +64,7 @@ fn resolve_count(
             word: count.word,
             is_reverse: count.is_reverse,
             type_name: type_name.into_inner(),
-            bounds: in_place(bounds),
+            bounds,
         },
     )
 }
@@ -82,15 +73,16 @@ fn resolve_count(
 pub fn resolve_scheme(
     alloc: Global,
     scheme: &Scheme,
+    types: &[TypeRow],
     region: &mut Region,
     vars: &mut Items<Var>,
     outer: &Scope<'_>,
 ) -> Result<Boxed<CoreScheme>, AllocError>
-    ensures { IfOk result (λ r. (r ≡ resolved_scheme (seen outer.now) region.old (length vars.old) scheme.now) × (region.new ≡ declaring_all region.old (declared_by_scheme r)) × (vars.new ≡ vars.old ++ map var_of (declared_by_scheme r))) }
+    ensures { IfOk result (λ r. (r ≡ resolved_scheme (in_code types.now) (seen outer.now) region.old (length vars.old) scheme.now) × (region.new ≡ declaring_all region.old (declared_by_scheme r)) × (vars.new ≡ vars.old ++ map var_of (declared_by_scheme r))) }
 {
     match scheme {
         Scheme::While(place, condition) => {
-            let condition = resolve_inside(alloc, condition.get(), region, outer)?;
+            let condition = resolve_inside(alloc, condition.get(), types, region, outer)?;
             Boxed::new(alloc, CoreScheme::While(*place, condition))
         }
         Scheme::For(count) => {
@@ -98,8 +90,8 @@ pub fn resolve_scheme(
             // Two calls keep `resolve_count` a function of its own. Compiled into `resolve_stmt`, which nests, it would
             // take stack at each level.
             let count = match &count.bounds {
-                Some(_) => resolve_count(alloc, count, region, vars, outer)?,
-                None => resolve_count(alloc, count, region, vars, outer)?,
+                Some(_) => resolve_count(alloc, count, types, region, vars, outer)?,
+                None => resolve_count(alloc, count, types, region, vars, outer)?,
             };
             Boxed::new(alloc, CoreScheme::For(count))
         }

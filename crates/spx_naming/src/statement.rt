@@ -2,25 +2,25 @@
 ghost use Rattle.std.specs.Prelude.{◌≡◌, ◌∷◌, ◌++◌, [], IfOk, length, map, option_map};
 ghost use Rattle.std.specs.List.{flat_map};
 ghost use Rattle.spx_core.specs.declared.statement.CoreStmt.TheVariants as stmt;
-ghost use Rattle.spx_core.specs.Resolved.{exported_names, in_order, parameters_by, parameters_by_alternative, parameters_by_arm, parameters_by_stmts, place_of_null, resolved_alternative, resolved_arm, resolved_choice, resolved_condition, resolved_derives, resolved_expr, resolved_item, resolved_predicate, resolved_reference, resolved_stmt, resolved_stmts, resolved_target, type_named, var_of};
+ghost use Rattle.spx_core.specs.Resolved.{assignment_to, exported_names, in_annotation, in_code, in_order, parameters_by, parameters_by_alternative, parameters_by_arm, parameters_by_stmts, place_of_null, resolved_alternative, resolved_arm, resolved_choice, resolved_condition, resolved_derives, resolved_expr, resolved_item, resolved_predicate, resolved_reference, resolved_stmt, resolved_stmts, resolved_target, type_of_target, var_of};
 ghost use Rattle.spx_scope.specs.Seen.{seen};
 
-use crate::changed::Changed;
 use crate::choices::resolve_listed;
 use crate::expression::{
-    resolve_condition, resolve_expr, resolve_inside, resolve_reference, resolve_references,
+    resolve_code, resolve_condition, resolve_inside, resolve_references, resolve_target,
 };
+use crate::meaning::type_of_target;
+use crate::scene::Scene;
 use crate::schemes::resolve_scheme;
-use spx_context::type_given;
 use spx_core::{
     CoreAlternative, CoreArm, CoreChoice, CoreDerives, CoreDerivesItem, CoreExpr, CorePredicate,
-    CoreScheme, CoreStmt, Reference, Target, Var,
+    CoreStmt, Reference, Target, TypeRow, Var,
 };
 use spx_scope::{Region, Scope};
 use spx_text::Place;
 use spx_tree::{
-    Alternative, Arm, AssertionKind, Choice, Closing, Derives, DerivesItem, Exports, Expr, Name,
-    Predicate, Stmt,
+    Alternative, Arm, AssertionKind, Choice, Derives, DerivesItem, Exports, Expr, Name, Predicate,
+    Stmt,
 };
 use sqlite_items::{Boxed, Items};
 use std::alloc::{AllocError, Global};
@@ -31,114 +31,109 @@ use std::alloc::{AllocError, Global};
 pub fn resolve_stmts(
     alloc: Global,
     stmts: &[Stmt],
-    changed: &Changed<'_>,
+    scene: &Scene<'_>,
     region: &mut Region,
     vars: &mut Items<Var>,
     outer: &Scope<'_>,
-) -> Result<Boxed<Items<CoreStmt>>, AllocError>
-    ensures { IfOk result (λ r. ((r, length vars.new) ≡ resolved_stmts changed.now (seen outer.now) stmts.now region.old (length vars.old)) × (region.new ≡ region.old) × (vars.new ≡ vars.old ++ map var_of (parameters_by_stmts r))) }
+) -> Result<Items<CoreStmt>, AllocError>
+    ensures { IfOk result (λ r. ((r, length vars.new) ≡ resolved_stmts scene.now.types scene.now.items (seen outer.now) stmts.now region.old (length vars.old)) × (region.new ≡ region.old) × (vars.new ≡ vars.old ++ map var_of (parameters_by_stmts r))) }
 {
     let mut resolved = Items::new(alloc);
     for stmt in stmts {
-        resolved.push(resolve_stmt(alloc, stmt, changed, region, vars, outer)?)?;
+        resolved.push(resolve_stmt(alloc, stmt, scene, region, vars, outer)?)?;
     }
-    Boxed::new(alloc, resolved)
+    Ok(resolved)
 }
 
 #[cycle(resolve_stmt)]
 fn resolve_arms(
     alloc: Global,
     arms: &[Arm],
-    changed: &Changed<'_>,
+    scene: &Scene<'_>,
     region: &mut Region,
     vars: &mut Items<Var>,
     outer: &Scope<'_>,
-) -> Result<Boxed<Items<CoreArm>>, AllocError>
-    ensures { IfOk result (λ r. ((r, length vars.new) ≡ in_order (map (resolved_arm changed.now (seen outer.now)) arms.now) region.old (length vars.old)) × (region.new ≡ region.old) × (vars.new ≡ vars.old ++ map var_of (flat_map parameters_by_arm r))) }
+) -> Result<Items<CoreArm>, AllocError>
+    ensures { IfOk result (λ r. ((r, length vars.new) ≡ in_order (map (resolved_arm scene.now.types scene.now.items (seen outer.now)) arms.now) region.old (length vars.old)) × (region.new ≡ region.old) × (vars.new ≡ vars.old ++ map var_of (flat_map parameters_by_arm r))) }
 {
     let mut resolved = Items::new(alloc);
     for arm in arms {
         let place = arm.place;
-        let condition = resolve_inside(alloc, arm.condition.get(), region, outer)?;
+        let condition = resolve_inside(alloc, arm.condition.get(), scene.types(), region, outer)?;
         let body = arm.body.get().as_slice();
-        let body = resolve_stmts(alloc, body, changed, region, vars, outer)?;
+        let body = resolve_stmts(alloc, body, scene, region, vars, outer)?;
         resolved.push(CoreArm {
             place,
             condition,
             body,
         })?;
     }
-    Boxed::new(alloc, resolved)
+    Ok(resolved)
 }
 
 /// The choices of an alternative, unless it is for `others`, inside a region.
 fn resolve_choices(
     alloc: Global,
-    choices: &Option<Boxed<Items<Choice>>>,
+    choices: &Option<Items<Choice>>,
+    types: &[TypeRow],
     region: &Region,
     outer: &Scope<'_>,
 ) -> Result<Option<Items<CoreChoice>>, AllocError>
-    ensures { IfOk result (λ r. r ≡ option_map (map (resolved_choice (region.now ∷ seen outer.now))) choices.now) }
+    ensures { IfOk result (λ r. r ≡ option_map (map (resolved_choice (in_code types.now) (region.now ∷ seen outer.now))) choices.now) }
 {
-    resolve_listed(alloc, choices, &Scope::inside(region, outer))
+    let scene = Scene::in_code(types);
+    resolve_listed(alloc, choices, &scene, &Scope::inside(region, outer))
 }
 
 #[cycle(resolve_stmt)]
 fn resolve_alternatives(
     alloc: Global,
     alternatives: &[Alternative],
-    changed: &Changed<'_>,
+    scene: &Scene<'_>,
     region: &mut Region,
     vars: &mut Items<Var>,
     outer: &Scope<'_>,
-) -> Result<Boxed<Items<CoreAlternative>>, AllocError>
-    ensures { IfOk result (λ r. ((r, length vars.new) ≡ in_order (map (resolved_alternative changed.now (seen outer.now)) alternatives.now) region.old (length vars.old)) × (region.new ≡ region.old) × (vars.new ≡ vars.old ++ map var_of (flat_map parameters_by_alternative r))) }
+) -> Result<Items<CoreAlternative>, AllocError>
+    ensures { IfOk result (λ r. ((r, length vars.new) ≡ in_order (map (resolved_alternative scene.now.types scene.now.items (seen outer.now)) alternatives.now) region.old (length vars.old)) × (region.new ≡ region.old) × (vars.new ≡ vars.old ++ map var_of (flat_map parameters_by_alternative r))) }
 {
     let mut resolved = Items::new(alloc);
     for alternative in alternatives {
-        let choices = resolve_choices(alloc, &alternative.choices, region, outer)?;
+        let choices = resolve_choices(alloc, &alternative.choices, scene.types(), region, outer)?;
         let body = alternative.body.as_slice();
-        let body = resolve_stmts(alloc, body, changed, region, vars, outer)?;
-        resolved.push(CoreAlternative {
-            choices,
-            body: body.into_inner(),
-        })?;
+        let body = resolve_stmts(alloc, body, scene, region, vars, outer)?;
+        resolved.push(CoreAlternative { choices, body })?;
     }
-    Boxed::new(alloc, resolved)
+    Ok(resolved)
 }
 
-/// A name that is assigned to. No part is resolved.
-fn resolve_target(
+/// The right side of an assignment to this target.
+fn resolve_right(
     alloc: Global,
-    name: &Name,
+    types: &[TypeRow],
+    target: &Target,
+    value: &Expr,
     scope: &Scope<'_>,
-) -> Result<Boxed<Target>, AllocError>
-    ensures { IfOk result (λ r. r ≡ resolved_target (seen scope.now) name.now) }
+) -> Result<Boxed<CoreExpr>, AllocError>
+    ensures { IfOk result (λ r. r ≡ resolved_expr (in_code types.now) (type_of_target target.now) (seen scope.now) value.now) }
 {
-    let reference = resolve_reference(alloc, name, scope)?;
-    Boxed::new(
-        alloc,
-        Target {
-            root: reference.root,
-            way: Items::new(alloc),
-            rest: reference.way,
-        },
-    )
+    let of = type_of_target(target);
+    resolve_code(alloc, types, of, value, scope)
 }
 
 fn resolve_assignment(
     alloc: Global,
     target: &Name,
     value: &Expr,
+    scene: &Scene<'_>,
     region: &Region,
     outer: &Scope<'_>,
 ) -> Result<CoreStmt, AllocError>
-    ensures { IfOk result (λ r. r ≡ stmt.Assignment (resolved_target (region.now ∷ seen outer.now) target.now) (resolved_expr (type_named (region.now ∷ seen outer.now) target.now) (region.now ∷ seen outer.now) value.now)) }
+    ensures { IfOk result (λ r. r ≡ assignment_to scene.now.types (region.now ∷ seen outer.now) (resolved_target scene.now.types (region.now ∷ seen outer.now) target.now) value.now) }
 {
+    let types = scene.types();
     let scope = Scope::inside(region, outer);
-    let target = resolve_target(alloc, target, &scope)?;
-    let of = type_given(target.get().root.entity);
-    let value = resolve_expr(alloc, of, value, &scope)?;
+    let target = resolve_target(alloc, target, types, &scope)?;
+    let value = resolve_right(alloc, types, target.get(), value, &scope)?;
     Ok(CoreStmt::Assignment(target, value))
 }
 
@@ -147,14 +142,14 @@ fn resolve_assertion(
     kind: AssertionKind,
     place: Place,
     condition: &Expr,
-    changed: &Changed<'_>,
+    scene: &Scene<'_>,
     region: &Region,
     outer: &Scope<'_>,
 ) -> Result<CoreStmt, AllocError>
-    ensures { IfOk result (λ r. r ≡ stmt.Assertion kind place (resolved_condition changed.now (region.now ∷ seen outer.now) condition.now)) }
+    ensures { IfOk result (λ r. r ≡ stmt.Assertion kind place (resolved_condition (in_annotation scene.now.types scene.now.items) (region.now ∷ seen outer.now) condition.now)) }
 {
     let scope = Scope::inside(region, outer);
-    let condition = resolve_condition(alloc, condition, changed, &scope)?;
+    let condition = resolve_condition(alloc, condition, &scene.annotating(), &scope)?;
     Ok(CoreStmt::Assertion(kind, place, condition))
 }
 
@@ -162,108 +157,69 @@ fn resolve_exit(
     alloc: Global,
     place: Place,
     condition: &Option<Boxed<Expr>>,
+    scene: &Scene<'_>,
     region: &Region,
     outer: &Scope<'_>,
 ) -> Result<CoreStmt, AllocError>
-    ensures { IfOk result (λ r. r ≡ stmt.Exit place (option_map (resolved_condition [] (region.now ∷ seen outer.now)) condition.now)) }
+    ensures { IfOk result (λ r. r ≡ stmt.Exit place (option_map (resolved_condition (in_code scene.now.types) (region.now ∷ seen outer.now)) condition.now)) }
 {
     match condition {
         Some(condition) => {
-            let condition = resolve_inside(alloc, condition.get(), region, outer)?;
+            let condition = condition.get();
+            let condition = resolve_inside(alloc, condition, scene.types(), region, outer)?;
             Ok(CoreStmt::Exit(place, Some(condition)))
         }
         None => Ok(CoreStmt::Exit(place, None)),
     }
 }
 
-/// An `if` of these parts.
-fn make_if(
-    alloc: Global,
-    arms: Boxed<Items<CoreArm>>,
-    otherwise: Option<Boxed<Items<CoreStmt>>>,
-    closing: &Boxed<Closing>,
-) -> Result<CoreStmt, AllocError>
-    ensures { IfOk result (λ r. r ≡ stmt.If arms otherwise closing.now) }
-{
-    let closing = Boxed::new(alloc, *closing.get())?;
-    Ok(CoreStmt::If(arms, otherwise, closing))
-}
-
-/// A `case` of these parts.
-fn make_case(
-    alloc: Global,
-    place: &Boxed<Place>,
-    selector: Boxed<CoreExpr>,
-    alternatives: Boxed<Items<CoreAlternative>>,
-    closing: &Boxed<Closing>,
-) -> Result<CoreStmt, AllocError>
-    ensures { IfOk result (λ r. r ≡ stmt.Case place.now selector alternatives closing.now) }
-{
-    let place = Boxed::new(alloc, *place.get())?;
-    let closing = Boxed::new(alloc, *closing.get())?;
-    Ok(CoreStmt::Case(place, selector, alternatives, closing))
-}
-
-/// A loop of these parts.
-fn make_loop(
-    alloc: Global,
-    scheme: Boxed<CoreScheme>,
-    word: &Boxed<Place>,
-    body: Boxed<Items<CoreStmt>>,
-    closing: &Boxed<Closing>,
-) -> Result<CoreStmt, AllocError>
-    ensures { IfOk result (λ r. r ≡ stmt.Loop scheme word.now body closing.now) }
-{
-    let word = Boxed::new(alloc, *word.get())?;
-    let closing = Boxed::new(alloc, *closing.get())?;
-    Ok(CoreStmt::Loop(scheme, word, body, closing))
-}
-
 #[cycle(resolve_stmt)]
 fn resolve_stmt(
     alloc: Global,
     stmt: &Stmt,
-    changed: &Changed<'_>,
+    scene: &Scene<'_>,
     region: &mut Region,
     vars: &mut Items<Var>,
     outer: &Scope<'_>,
 ) -> Result<CoreStmt, AllocError>
-    ensures { IfOk result (λ r. ((r, length vars.new) ≡ resolved_stmt changed.now (seen outer.now) stmt.now region.old (length vars.old)) × (region.new ≡ region.old) × (vars.new ≡ vars.old ++ map var_of (parameters_by r))) }
+    ensures { IfOk result (λ r. ((r, length vars.new) ≡ resolved_stmt scene.now.types scene.now.items (seen outer.now) stmt.now region.old (length vars.old)) × (region.new ≡ region.old) × (vars.new ≡ vars.old ++ map var_of (parameters_by r))) }
 {
     match stmt {
         Stmt::Null(place) => Ok(CoreStmt::Null(*place)),
         Stmt::Assignment(target, value) => {
-            resolve_assignment(alloc, target.get(), value.get(), region, outer)
+            resolve_assignment(alloc, target.get(), value.get(), scene, region, outer)
         }
         Stmt::If(arms, otherwise, closing) => {
             let arms = arms.get().as_slice();
-            let arms = resolve_arms(alloc, arms, changed, region, vars, outer)?;
+            let arms = resolve_arms(alloc, arms, scene, region, vars, outer)?;
             let Some(stmts) = otherwise else {
-                return make_if(alloc, arms, None, closing);
+                return Ok(CoreStmt::If(arms, None, *closing.get()));
             };
             let stmts = stmts.get().as_slice();
-            let stmts = resolve_stmts(alloc, stmts, changed, region, vars, outer)?;
-            make_if(alloc, arms, Some(stmts), closing)
+            let stmts = resolve_stmts(alloc, stmts, scene, region, vars, outer)?;
+            Ok(CoreStmt::If(arms, Some(stmts), *closing.get()))
         }
         Stmt::Case(place, selector, alternatives, closing) => {
-            let selector = resolve_inside(alloc, selector.get(), region, outer)?;
+            let selector = resolve_inside(alloc, selector.get(), scene.types(), region, outer)?;
             let given = alternatives.get().as_slice();
-            let alternatives = resolve_alternatives(alloc, given, changed, region, vars, outer)?;
-            make_case(alloc, place, selector, alternatives, closing)
+            let alternatives = resolve_alternatives(alloc, given, scene, region, vars, outer)?;
+            Ok(CoreStmt::Case(*place.get(), selector, alternatives, *closing.get()))
         }
         Stmt::Loop(scheme, word, body, closing) => {
             let count = region.len();
-            let scheme = resolve_scheme(alloc, scheme.get(), region, vars, outer)?;
+            let scheme = resolve_scheme(alloc, scheme.get(), scene.types(), region, vars, outer)?;
             let body = body.get().as_slice();
-            let body = resolve_stmts(alloc, body, changed, region, vars, outer)?;
+            let body = resolve_stmts(alloc, body, scene, region, vars, outer)?;
             region.truncate(count);
-            make_loop(alloc, scheme, word, body, closing)
+            Ok(CoreStmt::Loop(scheme.into_inner(), *word.get(), body, *closing.get()))
         }
         Stmt::Assertion(kind, place, condition) => {
             let condition = condition.get();
-            resolve_assertion(alloc, *kind, *place, condition, changed, region, outer)
+            resolve_assertion(alloc, *kind, *place, condition, scene, region, outer)
         }
-        Stmt::Exit(place, condition) => resolve_exit(alloc, *place, condition, region, outer),
+        Stmt::Exit(place, condition) => {
+            resolve_exit(alloc, *place, condition, scene, region, outer)
+        }
     }
 }
 
@@ -344,15 +300,15 @@ pub fn resolve_derives(
 pub fn resolve_predicate(
     alloc: Global,
     predicate: &Option<Predicate>,
-    changed: &Changed<'_>,
+    scene: &Scene<'_>,
     scope: &Scope<'_>,
 ) -> Result<Option<CorePredicate>, AllocError>
-    ensures { IfOk result (λ r. r ≡ option_map (resolved_predicate changed.now (seen scope.now)) predicate.now) }
+    ensures { IfOk result (λ r. r ≡ option_map (resolved_predicate scene.now (seen scope.now)) predicate.now) }
 {
     match predicate {
         Some(predicate) => Ok(Some(CorePredicate {
             place: predicate.place,
-            condition: resolve_condition(alloc, predicate.condition.get(), changed, scope)?,
+            condition: resolve_condition(alloc, predicate.condition.get(), scene, scope)?,
         })),
         None => Ok(None),
     }
@@ -362,9 +318,10 @@ pub fn resolve_predicate(
 pub fn resolve_precondition(
     alloc: Global,
     pre: &Option<Predicate>,
+    types: &[TypeRow],
     scope: &Scope<'_>,
 ) -> Result<Option<CorePredicate>, AllocError>
-    ensures { IfOk result (λ r. r ≡ option_map (resolved_predicate [] (seen scope.now)) pre.now) }
+    ensures { IfOk result (λ r. r ≡ option_map (resolved_predicate (in_code types.now) (seen scope.now)) pre.now) }
 {
-    resolve_predicate(alloc, pre, &Changed::nothing(), scope)
+    resolve_predicate(alloc, pre, &Scene::in_code(types), scope)
 }

@@ -2,18 +2,17 @@
 ghost use Rattle.std.specs.Prelude.{◌≡◌, ◌∷◌, ◌++◌, [], IfOk, length, option_map};
 ghost use Rattle.spx_core.specs.declared.entity.Entity.TheVariants as entity;
 ghost use Rattle.spx_core.specs.declared.rule.ExprType.TheVariants.{Universal};
-ghost use Rattle.spx_core.specs.Resolved.{around_names, constants_of, declared_by, declaring, declaring_all, defining, enumeration_decl, integer_decl, resolved_range, resolved_reference, resolved_static, row_with, rows_by, subtype_decl};
+ghost use Rattle.spx_core.specs.Resolved.{around_names, constants_of, declared_by, declaring, declaring_all, defining, enumeration_decl, in_declaration, integer_decl, resolved_range, resolved_reference, resolved_static, row_with, rows_by, subtype_decl};
 ghost use Rattle.spx_scope.specs.Seen.{seen};
 
 use crate::meaning::{constant_of, enumeration_type, narrowed, range_type, static_value};
 use crate::names::{declare, declare_all};
 use crate::parts::{
-    resolve_constraint, resolve_range, resolve_type_mark, resolve_type_name, resolve_value,
+    declared_constraint, declared_range, declared_value, resolve_type_mark, resolve_type_name,
 };
 use crate::tables::add_row;
 use spx_core::{
-    CoreDecl, CoreRange, CoreTypeDef, Defining, Entity, ExprType, Meaning, Subtype, TypeForm,
-    TypeRow,
+    CoreDecl, CoreRange, CoreTypeDef, Defining, Entity, Meaning, Subtype, TypeForm, TypeRow,
 };
 use spx_scope::{Region, Scope};
 use spx_text::Place;
@@ -67,16 +66,10 @@ pub fn resolve_integer(
     name: &Identifier,
     range: &Range,
 ) -> Result<CoreDecl, AllocError>
-    ensures { IfOk result (λ d. (d ≡ integer_decl region.old (length types.old) name.now (resolved_range Universal (around_names (seen outer.now) region.old (name.now ∷ [])) range.now)) × (region.new ≡ declaring_all region.old (declared_by d)) × (types.new ≡ types.old ++ rows_by d)) }
+    ensures { IfOk result (λ d. (d ≡ integer_decl region.old (length types.old) name.now (resolved_range (in_declaration types.old) Universal (around_names (seen outer.now) region.old (name.now ∷ [])) range.now)) × (region.new ≡ declaring_all region.old (declared_by d)) × (types.new ≡ types.old ++ rows_by d)) }
 {
-    let range = resolve_range(
-        alloc,
-        ExprType::Universal,
-        region,
-        outer,
-        slice::from_ref(name),
-        range,
-    )?;
+    let hidden = slice::from_ref(name);
+    let range = declared_range(alloc, types.as_slice(), region, outer, hidden, range)?;
     declare_integer(alloc, region, types, outer, name, range)
 }
 
@@ -111,11 +104,11 @@ pub fn resolve_subtype(
     parent: &Name,
     range: &Option<Boxed<Range>>,
 ) -> Result<CoreDecl, AllocError>
-    ensures { IfOk result (λ d. (d ≡ subtype_decl region.old (length types.old) name.now (resolved_reference (around_names (seen outer.now) region.old (name.now ∷ [])) parent.now) (option_map (resolved_range Universal (around_names (seen outer.now) region.old (name.now ∷ []))) range.now)) × (region.new ≡ declaring_all region.old (declared_by d)) × (types.new ≡ types.old ++ rows_by d)) }
+    ensures { IfOk result (λ d. (d ≡ subtype_decl region.old (length types.old) name.now (resolved_reference (around_names (seen outer.now) region.old (name.now ∷ [])) parent.now) (option_map (resolved_range (in_declaration types.old) Universal (around_names (seen outer.now) region.old (name.now ∷ []))) range.now)) × (region.new ≡ declaring_all region.old (declared_by d)) × (types.new ≡ types.old ++ rows_by d)) }
 {
     let hidden = slice::from_ref(name);
     let parent = resolve_type_name(alloc, region, outer, hidden, parent)?;
-    let range = resolve_constraint(alloc, ExprType::Universal, region, outer, hidden, range)?;
+    let range = declared_constraint(alloc, types.as_slice(), region, outer, hidden, range)?;
     let subtype = narrowed(types.len(), subtype_of(parent.get().root.entity), &range);
     let form = TypeForm::Scalar;
     let name = declare_type(alloc, region, types, outer, subtype, form, name)?;
@@ -125,16 +118,17 @@ pub fn resolve_subtype(
 /// Constants of this value.
 pub fn resolve_constants(
     alloc: Global,
+    types: &[TypeRow],
     region: &mut Region,
     outer: &Scope<'_>,
     names: &[Identifier],
     type_name: &Option<Boxed<Name>>,
     value: &Expr,
 ) -> Result<CoreDecl, AllocError>
-    ensures { IfOk result (λ d. (d ≡ constants_of region.old names.now (option_map (resolved_reference (around_names (seen outer.now) region.old names.now)) type_name.now) (resolved_static (around_names (seen outer.now) region.old names.now) value.now)) × (region.new ≡ declaring_all region.old (declared_by d))) }
+    ensures { IfOk result (λ d. (d ≡ constants_of region.old names.now (option_map (resolved_reference (around_names (seen outer.now) region.old names.now)) type_name.now) (resolved_static (in_declaration types.now) (around_names (seen outer.now) region.old names.now) value.now)) × (region.new ≡ declaring_all region.old (declared_by d))) }
 {
     let type_name = resolve_type_mark(alloc, region, outer, names, type_name)?;
-    let value = resolve_value(alloc, ExprType::Universal, region, outer, names, value)?;
+    let value = declared_value(alloc, types, region, outer, names, value)?;
     let meaning = Meaning::Each(constant_of(&type_name, static_value(value.get())));
     let names = declare_all(alloc, region, outer, meaning, 0, names)?;
     let names = Boxed::new(alloc, names)?;

@@ -1,21 +1,22 @@
 // Subprograms and programs.
 ghost use Rattle.std.specs.Prelude.{◌≡◌, ◌∷◌, ◌++◌, ◌+◌, ◌-◌, [], IfOk, length, map, option_map};
 ghost use Rattle.std.specs.List.{flat_map, range_with_len};
-ghost use Rattle.spx_core.specs.Resolved.{around_body, declared_by_decls, declared_by_params, declaring, declaring_all, defining, own_types, own_vars, parameters_by_stmts, params_of, resolved, resolved_decls, resolved_derives, resolved_formal_part, resolved_predicate, resolved_stmts, resolved_sub, resolved_subs, rows_by_decls, sub_at, var_of, variables_by_decls};
+ghost use Rattle.spx_core.specs.Resolved.{around_body, declared_by_decls, declared_by_params, declaring, declaring_all, defining, in_annotation, in_code, own_types, own_vars, parameters_by_stmts, params_of, resolved, resolved_decls, resolved_derives, resolved_formal_part, resolved_predicate, resolved_stmts, resolved_sub, resolved_subs, rows_by_decls, sub_at, var_of, variables_by_decls};
 ghost use Rattle.spx_core.specs.Dependency.{items_of};
 ghost use Rattle.spx_scope.specs.Seen.{seen};
-ghost use Rattle.spx_naming.specs.Counting.{counts_of};
+ghost use Rattle.spx_naming.specs.Before.{before_in};
 ghost use Rattle.spx_naming.specs.Ids.{ids_from};
 ghost use Rattle.spx_naming.specs.Units.{subprogram_of};
 
 use crate::changed::Changed;
 use crate::declaration::{resolve_decls, resolve_params};
 use crate::names::declare;
+use crate::scene::Scene;
 use crate::statement::{resolve_derives, resolve_precondition, resolve_predicate, resolve_stmts};
 use crate::tables::Tables;
 use spx_core::{
     CoreDecl, CoreDerives, CoreFormalPart, CorePredicate, CoreStmt, CoreUnit, Defining, Entity,
-    Program, Sub, SubId, Var, VarId,
+    Program, Sub, SubId, TypeRow, Var, VarId,
 };
 use spx_scope::{Region, Scope, Standard};
 use spx_tree::{Identifier, Predicate, Subprogram, Unit};
@@ -71,13 +72,34 @@ fn ids_between(alloc: Global, first: usize, end: usize) -> Result<Items<VarId>, 
 fn resolve_post(
     alloc: Global,
     post: &Option<Predicate>,
+    types: &[TypeRow],
     changed: &Changed<'_>,
     region: &Region,
     outer: &Scope<'_>,
 ) -> Result<Option<CorePredicate>, AllocError>
-    ensures { IfOk result (λ r. r ≡ option_map (resolved_predicate changed.now (region.now ∷ seen outer.now)) post.now) }
+    ensures { IfOk result (λ r. r ≡ option_map (resolved_predicate (in_annotation types.now changed.now) (region.now ∷ seen outer.now)) post.now) }
 {
-    resolve_predicate(alloc, post, changed, &Scope::inside(region, outer))
+    let scene = Scene::in_annotation(types, changed);
+    resolve_predicate(alloc, post, &scene, &Scope::inside(region, outer))
+}
+
+/// The statements of a subprogram, which see all its types.
+fn resolve_statements(
+    alloc: Global,
+    changed: &Changed<'_>,
+    region: &mut Region,
+    tables: &mut Tables,
+    outer: &Scope<'_>,
+    subprogram: &Subprogram,
+) -> Result<Items<CoreStmt>, AllocError>
+    ensures statements { IfOk result (λ r. r ≡ (resolved_stmts tables.old.types changed.now (seen outer.now) subprogram.now.statements region.old (length tables.old.vars)).0) }
+    ensures vars { IfOk result (λ r. tables.new.vars ≡ tables.old.vars ++ map var_of (parameters_by_stmts r)) }
+    ensures types { tables.new.types ≡ tables.old.types }
+{
+    let scene = Scene::in_annotation(tables.types.as_slice(), changed);
+    let vars = &mut tables.vars;
+    let statements = subprogram.statements.as_slice();
+    resolve_stmts(alloc, statements, &scene, region, vars, outer)
 }
 
 /// The postcondition, the declarations and the statements of a subprogram.
@@ -87,7 +109,7 @@ struct Body {
     declarations: Items<CoreDecl>,
     /// How many variables are declared there.
     local_count: usize,
-    statements: Boxed<Items<CoreStmt>>,
+    statements: Items<CoreStmt>,
 }
 
 /// The postcondition and the body of a subprogram, of which the relation changes these variables.
@@ -99,22 +121,21 @@ fn resolve_body(
     changed: &Changed<'_>,
     subprogram: &Subprogram,
 ) -> Result<Boxed<Body>, AllocError>
-    ensures post { IfOk result (λ r. r.post ≡ option_map (resolved_predicate changed.now (formals ∷ seen outer.now)) subprogram.now.post) }
-    ensures declarations { IfOk result (λ r. r.declarations ≡ resolved_decls (seen outer.now) formals (counts_of tables.old) subprogram.now.declarations) }
+    ensures post { IfOk result (λ r. r.post ≡ option_map (resolved_predicate (in_annotation tables.old.types changed.now) (formals ∷ seen outer.now)) subprogram.now.post) }
+    ensures declarations { IfOk result (λ r. r.declarations ≡ resolved_decls (seen outer.now) formals (before_in tables.old) subprogram.now.declarations) }
     ensures local_count { IfOk result (λ r. r.local_count ≡ length (variables_by_decls r.declarations)) }
-    ensures statements { IfOk result (λ r. r.statements ≡ (resolved_stmts changed.now (seen outer.now) subprogram.now.statements (declaring_all formals (declared_by_decls r.declarations)) (length tables.old.vars + r.local_count)).0) }
+    ensures statements { IfOk result (λ r. r.statements ≡ (resolved_stmts tables.new.types changed.now (seen outer.now) subprogram.now.statements (declaring_all formals (declared_by_decls r.declarations)) (length tables.old.vars + r.local_count)).0) }
     ensures vars { IfOk result (λ r. tables.new.vars ≡ tables.old.vars ++ map var_of (variables_by_decls r.declarations ++ parameters_by_stmts r.statements)) }
     ensures types { IfOk result (λ r. tables.new.types ≡ tables.old.types ++ rows_by_decls r.declarations) }
 {
     let mut region = formals;
-    let post = resolve_post(alloc, &subprogram.post, changed, &region, outer)?;
+    let types = tables.types.as_slice();
+    let post = resolve_post(alloc, &subprogram.post, types, changed, &region, outer)?;
     let first = tables.vars.len();
     let declarations = subprogram.declarations.as_slice();
     let declarations = resolve_decls(alloc, &mut region, tables, outer, declarations)?;
     let local_count = tables.vars.len() - first;
-    let vars = &mut tables.vars;
-    let statements = subprogram.statements.as_slice();
-    let statements = resolve_stmts(alloc, statements, changed, &mut region, vars, outer)?;
+    let statements = resolve_statements(alloc, changed, &mut region, tables, outer, subprogram)?;
     Boxed::new(
         alloc,
         Body {
@@ -135,10 +156,10 @@ fn resolve_under(
     derives: &Option<CoreDerives>,
     subprogram: &Subprogram,
 ) -> Result<Boxed<Body>, AllocError>
-    ensures post { IfOk result (λ r. r.post ≡ option_map (resolved_predicate (items_of derives.now) (formals ∷ seen outer.now)) subprogram.now.post) }
-    ensures declarations { IfOk result (λ r. r.declarations ≡ resolved_decls (seen outer.now) formals (counts_of tables.old) subprogram.now.declarations) }
+    ensures post { IfOk result (λ r. r.post ≡ option_map (resolved_predicate (in_annotation tables.old.types (items_of derives.now)) (formals ∷ seen outer.now)) subprogram.now.post) }
+    ensures declarations { IfOk result (λ r. r.declarations ≡ resolved_decls (seen outer.now) formals (before_in tables.old) subprogram.now.declarations) }
     ensures local_count { IfOk result (λ r. r.local_count ≡ length (variables_by_decls r.declarations)) }
-    ensures statements { IfOk result (λ r. r.statements ≡ (resolved_stmts (items_of derives.now) (seen outer.now) subprogram.now.statements (declaring_all formals (declared_by_decls r.declarations)) (length tables.old.vars + r.local_count)).0) }
+    ensures statements { IfOk result (λ r. r.statements ≡ (resolved_stmts tables.new.types (items_of derives.now) (seen outer.now) subprogram.now.statements (declaring_all formals (declared_by_decls r.declarations)) (length tables.old.vars + r.local_count)).0) }
     ensures vars { IfOk result (λ r. tables.new.vars ≡ tables.old.vars ++ map var_of (variables_by_decls r.declarations ++ parameters_by_stmts r.statements)) }
     ensures types { IfOk result (λ r. tables.new.types ≡ tables.old.types ++ rows_by_decls r.declarations) }
 {
@@ -164,11 +185,11 @@ fn resolve_inner(
     subprogram: &Subprogram,
 ) -> Result<Boxed<Inner>, AllocError>
     ensures derives { IfOk result (λ r. r.derives ≡ option_map (resolved_derives (formals ∷ around_body name.now)) subprogram.now.derives) }
-    ensures pre { IfOk result (λ r. r.pre ≡ option_map (resolved_predicate [] (formals ∷ around_body name.now)) subprogram.now.pre) }
-    ensures post { IfOk result (λ r. r.body.post ≡ option_map (resolved_predicate (items_of r.derives) (formals ∷ around_body name.now)) subprogram.now.post) }
-    ensures declarations { IfOk result (λ r. r.body.declarations ≡ resolved_decls (around_body name.now) formals (counts_of tables.old) subprogram.now.declarations) }
+    ensures pre { IfOk result (λ r. r.pre ≡ option_map (resolved_predicate (in_code tables.old.types) (formals ∷ around_body name.now)) subprogram.now.pre) }
+    ensures post { IfOk result (λ r. r.body.post ≡ option_map (resolved_predicate (in_annotation tables.old.types (items_of r.derives)) (formals ∷ around_body name.now)) subprogram.now.post) }
+    ensures declarations { IfOk result (λ r. r.body.declarations ≡ resolved_decls (around_body name.now) formals (before_in tables.old) subprogram.now.declarations) }
     ensures local_count { IfOk result (λ r. r.body.local_count ≡ length (variables_by_decls r.body.declarations)) }
-    ensures statements { IfOk result (λ r. r.body.statements ≡ (resolved_stmts (items_of r.derives) (around_body name.now) subprogram.now.statements (declaring_all formals (declared_by_decls r.body.declarations)) (length tables.old.vars + r.body.local_count)).0) }
+    ensures statements { IfOk result (λ r. r.body.statements ≡ (resolved_stmts tables.new.types (items_of r.derives) (around_body name.now) subprogram.now.statements (declaring_all formals (declared_by_decls r.body.declarations)) (length tables.old.vars + r.body.local_count)).0) }
     ensures vars { IfOk result (λ r. tables.new.vars ≡ tables.old.vars ++ map var_of (variables_by_decls r.body.declarations ++ parameters_by_stmts r.body.statements)) }
     ensures types { IfOk result (λ r. tables.new.types ≡ tables.old.types ++ rows_by_decls r.body.declarations) }
 {
@@ -177,7 +198,8 @@ fn resolve_inner(
     let outer = Scope::inside(&own_name, &outermost);
     let scope = Scope::inside(&formals, &outer);
     let derives = resolve_derives(alloc, &subprogram.derives, &scope)?;
-    let pre = resolve_precondition(alloc, &subprogram.pre, &scope)?;
+    let types = tables.types.as_slice();
+    let pre = resolve_precondition(alloc, &subprogram.pre, types, &scope)?;
     let body = resolve_under(alloc, formals, tables, &outer, &derives, subprogram)?;
     Boxed::new(alloc, Inner { derives, pre, body })
 }
@@ -199,7 +221,7 @@ fn resolve_subprogram(
     name: Boxed<Defining>,
     subprogram: &Subprogram,
 ) -> Result<Boxed<Sub>, AllocError>
-    ensures { IfOk result (λ sub. (sub ≡ resolved_sub name (counts_of tables.old) subprogram.now) × (tables.new.vars ≡ tables.old.vars ++ own_vars sub) × (tables.new.types ≡ tables.old.types ++ own_types sub)) }
+    ensures { IfOk result (λ sub. (sub ≡ resolved_sub name (before_in tables.old) subprogram.now) × (tables.new.vars ≡ tables.old.vars ++ own_vars sub) × (tables.new.types ≡ tables.old.types ++ own_types sub)) }
 {
     let first = tables.vars.len();
     let mut formals = Region::new(alloc)?;
@@ -221,7 +243,7 @@ fn resolve_subprogram(
             pre: inner.pre,
             post: body.post,
             declarations: body.declarations,
-            statements: body.statements.into_inner(),
+            statements: body.statements,
             end: subprogram.end,
             end_name,
             vars,
@@ -260,7 +282,7 @@ fn resolve_units(
     everywhere: &Standard,
     units: &[Unit],
 ) -> Result<Items<Sub>, AllocError>
-    ensures { IfOk result (λ subs. (subs ≡ resolved_subs [] 0 (counts_of tables.old) units.now) × (tables.new.vars ≡ tables.old.vars ++ flat_map own_vars subs) × (tables.new.types ≡ tables.old.types ++ flat_map own_types subs)) }
+    ensures { IfOk result (λ subs. (subs ≡ resolved_subs [] 0 (before_in tables.old) units.now) × (tables.new.vars ≡ tables.old.vars ++ flat_map own_vars subs) × (tables.new.types ≡ tables.old.types ++ flat_map own_types subs)) }
 {
     let outermost = Scope::outermost(everywhere);
     let mut library = Region::new(alloc)?;

@@ -3,20 +3,24 @@ use Rattle.std.specs.Prelude.{⊤}
 use Rattle.std.proofs.Common.{◌≡◌, ℕ, zero, suc, ◌-◌, ◌<◌, Bool, true, false, cond, List, length, Option, Some, None, Ok, Err, refl, sym, ap, ◌∙◌, arith, leb}
 use Rattle.spx_text.specs.declared.place.Place.{Place}
 use Rattle.spx_tree.specs.declared.token.Kind.TheVariants as k
-use Rattle.spx_tree.specs.declared.expression.Function.{Function}
+use Rattle.spx_tree.specs.declared.expression.Identifier.{Identifier}
 use Rattle.spx_tree.specs.declared.expression.InfixOp.{InfixOp}
 use Rattle.spx_tree.specs.declared.expression.Layer.{Layer}
 use Rattle.spx_tree.specs.declared.expression.Layer.TheVariants as layer
 use Rattle.spx_tree.specs.Form.{Form}
+use Rattle.spx_tree.specs.Written.{program}
 use Rattle.spx_tree.specs.Goes.{Fault, TooDeep}
 use Rattle.spx_parse_body.specs.declared.expressions.Tall.{Tall}
-use Rattle.spx_cursor.specs.Reading.{Outcome, Reader, and_then, ◌>>=◌, pure, peek, expect, expect_place, deeper, turn, loop}
+use Rattle.spx_cursor.specs.Reading.{Outcome, Reader, and_then, ◌>>=◌, ◌>>◌, pure, peek, sees, expect, expect_place, identifier, deeper, turn, loop}
 use Rattle.spx_cursor.specs.declared.operators.Chain.{Chain}
 use Rattle.spx_cursor.specs.Operators.{goes_on}
-use Rattle.spx_parse_body.specs.Expressions.{applied, enclosed, in_parentheses, application, joined_by, step_by, chain_step, chained, below, at_layer}
-use Rattle.spx_parse_body.specs.Statements.{constraint_below, constraint, stmts_below, stmts}
+use Rattle.spx_parse_body.specs.declared.names.Parts.{Parts}
+use Rattle.spx_parse_body.specs.declared.names.TallName.{TallName}
+use Rattle.spx_parse_body.specs.declared.names.StepKind.{StepKind}
+use Rattle.spx_parse_body.specs.Expressions.{enclosed, with_part, with_named, step_of, in_parentheses, part_step, more_parts, named_part, named_step, more_named, step_read, name_step_by, name_step, name_steps, joined_by, step_by, chain_step, chained, below, at_layer, name}
+use Rattle.spx_parse_body.specs.Statements.{constraint_below, constraint, type_below, stmts_below, stmts}
 use Rattle.spx_parse_body.proofs.Callers.Loops.{loop_is}
-use Rattle.spx_parse_body.proofs.Callers.ExpressionsGood.{below_good, chain_shrinks}
+use Rattle.spx_parse_body.proofs.Callers.ExpressionsGood.{below_good, chain_shrinks, parts_shrinks, named_shrinks, name_shrinks}
 
 pub below_is : (marked : Bool) (levels : ℕ) (layer : Layer) (fs : List Form) → 0 < levels → below marked levels layer fs ≡ at_layer marked (levels - 1) layer fs
 unfolding below at_layer
@@ -27,6 +31,11 @@ pub constraint_below_is : (levels : ℕ) (fs : List Form) → 0 < levels → con
 unfolding constraint_below
 constraint_below_is zero fs h = absurd (omega arith)
 constraint_below_is (suc n) fs h = let e : suc n - 1 ≡ n = omega arith in sym (ap (λ (j : ℕ). constraint j fs) e)
+
+pub type_below_is : (levels : ℕ) (fs : List Form) → 0 < levels → type_below levels fs ≡ name program (levels - 1) fs
+unfolding type_below
+type_below_is zero fs h = absurd (omega arith)
+type_below_is (suc n) fs h = let e : suc n - 1 ≡ n = omega arith in sym (ap (λ (j : ℕ). name program j fs) e)
 
 pub stmts_below_is : (levels : ℕ) (fs : List Form) → 0 < levels → stmts_below levels fs ≡ stmts (levels - 1) fs
 unfolding stmts_below stmts
@@ -75,10 +84,6 @@ pub in_parentheses_is : (marked : Bool) (levels : ℕ) (fs : List Form) → in_p
 unfolding in_parentheses
 in_parentheses_is marked levels fs = between_is marked (below marked levels layer.Predicate) enclosed levels fs
 
-pub application_is : (marked : Bool) (levels : ℕ) (function : Function) (fs : List Form) → application marked (below marked levels) levels function fs ≡ between marked (below marked levels layer.Expression) (applied function) levels fs
-unfolding application
-application_is marked levels function fs = between_is marked (below marked levels layer.Expression) (applied function) levels fs
-
 -- one turn of a chain, as the code takes it
 abbrev pub turn_by : (marked : Bool) (below : Layer → Reader Tall) (levels : ℕ) → (Tall → Reader Tall) → Tall → Option InfixOp → Reader Tall
 turn_by marked below levels go_on left None = pure left
@@ -94,3 +99,70 @@ unfolding chained
 chained_is marked levels c left fs =
     loop_is (peek marked) (chain_step marked (below marked levels) levels c) (chain_shrinks marked (below marked levels) (below marked (suc levels)) levels (below_good marked levels) c) left fs
     ∙ turn_is marked (below marked levels) levels (loop (peek marked) (chain_step marked (below marked levels) levels c)) left (goes_on c (peek marked fs)) fs
+
+-- one turn of a name, as the code takes it
+abbrev pub name_turn_by : (marked : Bool) (levels : ℕ) → TallName → Option StepKind → Reader TallName
+name_turn_by marked levels n None = pure n
+name_turn_by marked levels n (Some x) = step_read marked (below marked levels) levels n x >>= name_steps marked (below marked levels) levels
+
+name_turn_is : (marked : Bool) (levels : ℕ) (n : TallName) (x : Option StepKind) (fs : List Form) → turn (name_steps marked (below marked levels) levels) n (name_step_by marked (below marked levels) levels n x) fs ≡ name_turn_by marked levels n x fs
+name_turn_is marked levels n None fs = refl
+name_turn_is marked levels n (Some x) fs = refl
+
+pub name_steps_is : (marked : Bool) (levels : ℕ) (n : TallName) (fs : List Form) → name_steps marked (below marked levels) levels n fs ≡ name_turn_by marked levels n (step_of (peek marked fs)) fs
+unfolding name_steps
+name_steps_is marked levels n fs =
+    loop_is (peek marked) (name_step marked (below marked levels) levels) (name_shrinks marked (below marked levels) (below marked (suc levels)) levels (below_good marked levels)) n fs ∙ name_turn_is marked levels n (step_of (peek marked fs)) fs
+
+-- one more expression between parentheses, as the code takes it
+abbrev pub parts_by : (marked : Bool) (levels : ℕ) → Parts → Bool → Reader Parts
+parts_by marked levels parts false = pure parts
+parts_by marked levels parts true = expect marked k.Comma >>= λ u. below marked levels layer.Expression >>= λ t. more_parts marked (below marked levels) levels (with_part parts t)
+
+abbrev pub named_parts_by : (marked : Bool) (levels : ℕ) → Parts → Bool → Reader Parts
+named_parts_by marked levels parts false = pure parts
+named_parts_by marked levels parts true = expect marked k.Comma >>= λ u. named_part marked (below marked levels) levels >>= λ x. more_named marked (below marked levels) levels (with_named parts x)
+
+-- a separator, an item, and what goes on with the item
+item_is : {A S : Type 0} (marked : Bool) (item : Reader A) (add : A → S) (go_on : S → Reader S) (fs : List Form)
+    → and_then (and_then (and_then (expect marked k.Comma fs) (λ u. item)) (λ x. pure (add x))) go_on ≡ and_then (expect marked k.Comma fs) (λ u. item >>= λ x. go_on (add x))
+item_is marked item add go_on fs =
+    and_then_assoc (and_then (expect marked k.Comma fs) (λ u. item)) (λ x. pure (add x)) go_on ∙ and_then_assoc (expect marked k.Comma fs) (λ u. item) (λ x. go_on (add x))
+
+parts_turn_is : (marked : Bool) (levels : ℕ) (parts : Parts) (b : Bool) (fs : List Form) → turn (more_parts marked (below marked levels) levels) parts (part_step marked (below marked levels) levels parts b) fs ≡ parts_by marked levels parts b fs
+parts_turn_is marked levels parts false fs = refl
+parts_turn_is marked levels parts true fs = item_is marked (below marked levels layer.Expression) (with_part parts) (more_parts marked (below marked levels) levels) fs
+
+pub more_parts_is : (marked : Bool) (levels : ℕ) (parts : Parts) (fs : List Form) → 0 < levels → more_parts marked (below marked levels) levels parts fs ≡ parts_by marked levels parts (sees marked k.Comma fs) fs
+unfolding more_parts
+more_parts_is marked levels parts fs some =
+    loop_is (sees marked k.Comma) (part_step marked (below marked levels) levels) (parts_shrinks marked (below marked levels) (below marked (suc levels)) levels (below_good marked levels) some) parts fs ∙ parts_turn_is marked levels parts (sees marked k.Comma fs) fs
+
+named_turn_is : (marked : Bool) (levels : ℕ) (parts : Parts) (b : Bool) (fs : List Form) → turn (more_named marked (below marked levels) levels) parts (named_step marked (below marked levels) levels parts b) fs ≡ named_parts_by marked levels parts b fs
+named_turn_is marked levels parts false fs = refl
+named_turn_is marked levels parts true fs = item_is marked (named_part marked (below marked levels) levels) (with_named parts) (more_named marked (below marked levels) levels) fs
+
+pub more_named_is : (marked : Bool) (levels : ℕ) (parts : Parts) (fs : List Form) → 0 < levels → more_named marked (below marked levels) levels parts fs ≡ named_parts_by marked levels parts (sees marked k.Comma fs) fs
+unfolding more_named
+more_named_is marked levels parts fs some =
+    loop_is (sees marked k.Comma) (named_step marked (below marked levels) levels) (named_shrinks marked (below marked levels) (below marked (suc levels)) levels (below_good marked levels) some) parts fs ∙ named_turn_is marked levels parts (sees marked k.Comma fs) fs
+
+-- ---- a turn takes a form
+
+pub name_shorter : (marked : Bool) (levels : ℕ) (n m : TallName) (x : StepKind) (fs rest : List Form) → step_of (peek marked fs) ≡ Some x → step_read marked (below marked levels) levels n x fs ≡ Ok (m, rest) → length rest < length fs
+name_shorter marked levels n m x fs rest seen e =
+    (name_shrinks marked (below marked levels) (below marked (suc levels)) levels (below_good marked levels)).shortens n fs (step_read marked (below marked levels) levels n x) (ap (name_step_by marked (below marked levels) levels n) seen) m rest e
+
+-- a separator and an item
+pair_found : {A B : Type 0} (marked : Bool) (item : Reader A) (add : A → B) (fs middle rest : List Form) (x : A) → expect marked k.Comma fs ≡ Ok (tt, middle) → item middle ≡ Ok (x, rest) → ((expect marked k.Comma >> item) >>= λ y. pure (add y)) fs ≡ Ok (add x, rest)
+pair_found marked item add fs middle rest x e f = ap (λ (r : Outcome ⊤). and_then (and_then r (λ u. item)) (λ y. pure (add y))) e ∙ ap (λ (r : Outcome _). and_then r (λ y. pure (add y))) f
+
+pub part_shorter : (marked : Bool) (levels : ℕ) → 0 < levels → (parts : Parts) (t : Tall) (fs middle rest : List Form) → sees marked k.Comma fs ≡ true → expect marked k.Comma fs ≡ Ok (tt, middle) → below marked levels layer.Expression middle ≡ Ok (t, rest) → length rest < length fs
+part_shorter marked levels some parts t fs middle rest seen e f =
+    (parts_shrinks marked (below marked levels) (below marked (suc levels)) levels (below_good marked levels) some).shortens parts fs _ (ap (part_step marked (below marked levels) levels parts) seen) (with_part parts t) rest
+    (pair_found marked (below marked levels layer.Expression) (with_part parts) fs middle rest t e f)
+
+pub named_shorter : (marked : Bool) (levels : ℕ) → 0 < levels → (parts : Parts) (x : Identifier × Tall) (fs middle rest : List Form) → sees marked k.Comma fs ≡ true → expect marked k.Comma fs ≡ Ok (tt, middle) → named_part marked (below marked levels) levels middle ≡ Ok (x, rest) → length rest < length fs
+named_shorter marked levels some parts x fs middle rest seen e f =
+    (named_shrinks marked (below marked levels) (below marked (suc levels)) levels (below_good marked levels) some).shortens parts fs _ (ap (named_step marked (below marked levels) levels parts) seen) (with_named parts x) rest
+    (pair_found marked (named_part marked (below marked levels) levels) (with_named parts) fs middle rest x e f)

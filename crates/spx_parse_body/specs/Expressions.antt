@@ -1,5 +1,5 @@
--- Reading names and expressions (Ada 95 RM 4.1 and 4.4), one level down for each parenthesis, function, operator and membership test.
-use Rattle.std.specs.Prelude.{ℕ, zero, suc, ◌+◌, max, Bool, Option, Some, None}
+-- Reading names and expressions (Ada 95 RM 4.1 and 4.4), one level down for each parenthesis, operator and membership test.
+use Rattle.std.specs.Prelude.{ℕ, zero, suc, ◌+◌, max, Bool, true, false, List, [], ◌∷◌, ◌++◌, length, Option, Some, None}
 use Rattle.spx_text.specs.declared.place.Place.{Place}
 use Rattle.spx_tree.specs.declared.token.Kind.{Kind}
 use Rattle.spx_tree.specs.declared.token.Kind.TheVariants as k
@@ -10,52 +10,34 @@ use Rattle.spx_tree.specs.declared.expression.MemberOp.{MemberOp}
 use Rattle.spx_tree.specs.declared.expression.MemberOp.TheVariants as members
 use Rattle.spx_tree.specs.declared.expression.Layer.{Layer}
 use Rattle.spx_tree.specs.declared.expression.Layer.TheVariants as layer
+use Rattle.spx_tree.specs.declared.expression.Arguments.{Arguments}
+use Rattle.spx_tree.specs.declared.expression.Arguments.TheVariants as arguments_as
+use Rattle.spx_tree.specs.declared.expression.NameStep.{NameStep}
+use Rattle.spx_tree.specs.declared.expression.NameStep.TheVariants as step
+use Rattle.spx_tree.specs.declared.expression.Path.{Path}
 use Rattle.spx_tree.specs.declared.expression.Name.{Name}
-use Rattle.spx_tree.specs.declared.expression.Name.TheVariants.{Simple, Attribute}
-use Rattle.spx_tree.specs.declared.expression.Function.{Function}
-use Rattle.spx_tree.specs.declared.expression.FunctionForm.{FunctionForm}
-use Rattle.spx_tree.specs.declared.expression.FunctionForm.TheVariants as forms
-use Rattle.spx_tree.specs.declared.expression.Expr.{Expr}
+use Rattle.spx_tree.specs.declared.expression.Expr.{Expr, Expr-F, out-Expr}
 use Rattle.spx_tree.specs.declared.expression.Expr.TheVariants as expr
 use Rattle.spx_tree.specs.declared.annotation.Predicate.{Predicate}
-use Rattle.spx_tree.specs.Written.{annotation, sign_kind, operator_kind, parenthesized}
-use Rattle.spx_tree.specs.Written as written
+use Rattle.spx_tree.specs.Written.{annotation, sign_kind, operator_kind}
 use Rattle.spx_tree.specs.Grammar.{layer_of, right_layer, operand_layer, OfLayer}
 use Rattle.spx_parse_body.specs.declared.expressions.Tall.{Tall}
+use Rattle.spx_parse_body.specs.declared.names.Parts.{Parts}
+use Rattle.spx_parse_body.specs.declared.names.TallName.{TallName}
+use Rattle.spx_parse_body.specs.declared.names.StepKind.{StepKind}
+use Rattle.spx_parse_body.specs.declared.names.StepKind.TheVariants as steps
 use Rattle.spx_cursor.specs.declared.operators.Chain.{Chain}
 use Rattle.spx_cursor.specs.declared.operators.Chain.TheVariants as chain
 use Rattle.spx_cursor.specs.declared.operators.Relator.{Relator}
 use Rattle.spx_cursor.specs.declared.operators.Relator.TheVariants as relators
-use Rattle.spx_cursor.specs.Reading.{Reader, ◌>>=◌, ◌>>◌, pure, refuse, too_deep, peek, expect, expect_place, identifier, number, deeper, loop}
+use Rattle.spx_cursor.specs.Reading.{Reader, ◌>>=◌, ◌>>◌, pure, refuse, too_deep, peek, sees, expect, expect_place, identifier, number, deeper, loop}
 use Rattle.spx_cursor.specs.Operators.{sign_of, abs_or_not, power_of, relator_of, logical, connective_of, goes_on, last_layer, second, whole_operator}
-
--- ---- names
-
--- what stands after an identifier
-abbrev pub name_by : Bool → Identifier → Option Kind → Reader Name
-name_by marked prefix (Some k.Apostrophe) = do
-  expect marked k.Apostrophe
-  designator ← identifier marked
-  pure (Attribute prefix designator)
-name_by marked prefix _ = pure (Simple prefix)
-
--- identifier | identifier "'" identifier
-unfoldable pub name : Bool → Reader Name
-name marked = identifier marked >>= λ prefix fs. name_by marked prefix (peek marked fs) fs
 
 -- ---- expressions and their heights
 
--- a number, a name or a value on entry
+-- a number
 abbrev pub leaf : Expr → Tall
 leaf e = record { expr = e; height = 0 }
-
--- a function of this name
-abbrev pub function_of : Identifier → FunctionForm → Function
-function_of name form = record { name = name; form = form }
-
--- a function and its operand
-abbrev pub applied : Function → Place → Tall → Tall
-applied function place operand = record { expr = expr.Applied function place operand.expr; height = operand.height + 1 }
 
 -- an expression in parentheses
 abbrev pub enclosed : Place → Tall → Tall
@@ -69,25 +51,40 @@ prefixed op place operand = record { expr = expr.Prefix op place operand.expr; h
 abbrev pub joined : InfixOp → Place → Tall → Tall → Tall
 joined op place left right = record { expr = expr.Infix op place left.expr right.expr; height = max left.height right.height + 1 }
 
--- a membership test in a type
-abbrev pub in_type : MemberOp → Place → Tall → Name → Tall
-in_type op place tested type_name = record { expr = expr.InType op place tested.expr type_name; height = tested.height + 1 }
+-- a membership test in the type of a name, which is of this height
+abbrev pub in_type : MemberOp → Place → Tall → Name → ℕ → Tall
+in_type op place tested type_name high = record { expr = expr.InType op place tested.expr type_name.path type_name.parts; height = max tested.height high + 1 }
 
 -- a membership test in a range
 abbrev pub in_range : MemberOp → Place → Tall → Tall → Tall → Tall
 in_range op place tested low high = record { expr = expr.InRange op place tested.expr low.expr high.expr; height = max tested.height (max low.height high.height) + 1 }
 
+-- the name that an expression is, by its last level
+abbrev pub name_at : Expr-F Expr → Option Name
+name_at (Expr-F.Name path parts) = Some (record { path = path; parts = parts })
+name_at (Expr-F.Number value place) = None
+name_at (Expr-F.Parenthesized place inner) = None
+name_at (Expr-F.Prefix op place operand) = None
+name_at (Expr-F.Infix op place left right) = None
+name_at (Expr-F.InType op place tested path parts) = None
+name_at (Expr-F.InRange op place tested low high) = None
+
 -- the name that an expression is
 abbrev pub plain_name : Expr → Option Name
-plain_name (expr.Name name) = Some name
-plain_name (expr.Number value place) = None
-plain_name (expr.Entry identifier) = None
-plain_name (written.applied function place operand) = None
-plain_name (parenthesized place inner) = None
-plain_name (written.signed op place operand) = None
-plain_name (written.operation op place left right) = None
-plain_name (written.in_type op place tested type_name) = None
-plain_name (written.in_range op place tested low high) = None
+plain_name e = name_at (out-Expr e)
+
+-- the identifier that a name is
+abbrev pub root_alone : Identifier → List NameStep → Option Identifier
+root_alone root [] = Some root
+root_alone root (s ∷ steps) = None
+
+abbrev pub alone_in : Option Name → Option Identifier
+alone_in None = None
+alone_in (Some name) = root_alone name.path.root name.path.steps
+
+-- the identifier that an expression is
+abbrev pub identifier_in : Expr → Option Identifier
+identifier_in e = alone_in (plain_name e)
 
 -- number
 unfoldable pub literal : Bool → Reader Tall
@@ -95,14 +92,52 @@ literal marked = do
   v ← number marked
   pure (leaf (expr.Number v.0 v.1))
 
--- "~" after an identifier
-unfoldable pub entry : Bool → Identifier → Reader Tall
-entry marked identifier = expect marked k.Tilde >> pure (leaf (expr.Entry identifier))
-
 -- a membership test in the type of this name
-abbrev pub type_by : MemberOp → Place → Tall → Option Name → Reader Tall
-type_by op place tested (Some type_name) = pure (in_type op place tested type_name)
-type_by op place tested None = refuse
+abbrev pub type_by : MemberOp → Place → Tall → ℕ → Option Name → Reader Tall
+type_by op place tested high (Some type_name) = pure (in_type op place tested type_name high)
+type_by op place tested high None = refuse
+
+-- ---- names and their heights: an expression of a name opens a level with its parentheses
+
+-- no expressions
+abbrev pub no_parts : Parts
+no_parts = record { names = []; exprs = []; height = 0 }
+
+-- one expression more
+abbrev pub with_part : Parts → Tall → Parts
+with_part parts t = record { names = parts.names; exprs = parts.exprs ++ t.expr ∷ []; height = max parts.height (t.height + 1) }
+
+-- one expression more, which is given for a formal
+abbrev pub with_named : Parts → Identifier × Tall → Parts
+with_named parts x = record { names = parts.names ++ x.0 ∷ []; exprs = parts.exprs ++ x.1.expr ∷ []; height = max parts.height (x.1.height + 1) }
+
+-- arguments of one expression, and this
+abbrev pub one_part : Tall → Arguments × Parts
+one_part t = (arguments_as.Positional 1, with_part no_parts t)
+
+-- arguments that are named, and their expressions
+abbrev pub all_named : Parts → Arguments × Parts
+all_named parts = (arguments_as.Named parts.names, record { names = []; exprs = parts.exprs; height = parts.height })
+
+-- an identifier
+abbrev pub root_name : Identifier → TallName
+root_name root = record { path = record { root = root; steps = [] }; parts = []; height = 0 }
+
+-- a name with one step more, and the expressions of this
+abbrev pub with_step : NameStep → List Expr → ℕ → TallName → TallName
+with_step s exprs height n = record { path = record { root = n.path.root; steps = n.path.steps ++ s ∷ [] }; parts = n.parts ++ exprs; height = max n.height height }
+
+-- the name as a primary
+abbrev pub name_alone : TallName → Tall
+name_alone n = record { expr = expr.Name n.path n.parts; height = n.height }
+
+-- what goes on with a name
+abbrev pub step_of : Option Kind → Option StepKind
+step_of (Some k.Dot) = Some steps.Selection
+step_of (Some k.Apostrophe) = Some steps.Quotation
+step_of (Some k.LeftParenthesis) = Some steps.Application
+step_of (Some k.Tilde) = Some steps.Entry
+step_of _ = None
 
 -- What reads one level down is a parameter, and so is the number of levels that are left.
 module _ (marked : Bool) (below : Layer → Reader Tall) (levels : ℕ) where
@@ -114,47 +149,126 @@ module _ (marked : Bool) (below : Layer → Reader Tall) (levels : ℕ) where
     expect marked k.RightParenthesis
     pure (enclosed place inner))
 
-  -- "(" expression ")" after a function
-  unfoldable pub application : Function → Reader Tall
-  application function = deeper levels 0 (do
+  -- ---- arguments
+
+  -- "," expression
+  abbrev pub part_step : Parts → Bool → Option (Reader Parts)
+  part_step parts false = None
+  part_step parts true = Some ((expect marked k.Comma >> below layer.Expression) >>= λ t. pure (with_part parts t))
+
+  -- {"," expression}
+  unfoldable pub more_parts : Parts → Reader Parts
+  more_parts parts = loop (sees marked k.Comma) part_step parts
+
+  -- "=>" expression
+  unfoldable pub association : Reader Tall
+  association = expect marked k.Arrow >> below layer.Expression
+
+  -- identifier "=>" expression
+  unfoldable pub named_part : Reader (Identifier × Tall)
+  named_part = identifier marked >>= λ name. association >>= λ t. pure (name, t)
+
+  -- "," identifier "=>" expression
+  abbrev pub named_step : Parts → Bool → Option (Reader Parts)
+  named_step parts false = None
+  named_step parts true = Some ((expect marked k.Comma >> named_part) >>= λ x. pure (with_named parts x))
+
+  -- {"," identifier "=>" expression}
+  unfoldable pub more_named : Parts → Reader Parts
+  more_named parts = loop (sees marked k.Comma) named_step parts
+
+  -- the arguments after their first expression
+  unfoldable pub positional : Tall → Reader (Arguments × Parts)
+  positional first = more_parts (with_part no_parts first) >>= λ parts. pure (arguments_as.Positional (length parts.exprs), parts)
+
+  -- the arguments after their first formal
+  unfoldable pub named : Identifier → Reader (Arguments × Parts)
+  named name = association >>= λ t. more_named (with_named no_parts (name, t)) >>= λ parts. pure (all_named parts)
+
+  abbrev pub named_by : Tall → Option Identifier → Reader (Arguments × Parts)
+  named_by first None = pure (one_part first)
+  named_by first (Some name) = named name
+
+  -- Where the first expression is an identifier before "=>", this is a formal.
+  abbrev pub arguments_by : Tall → Option Kind → Reader (Arguments × Parts)
+  arguments_by first (Some k.Arrow) = named_by first (identifier_in first.expr)
+  arguments_by first (Some k.Comma) = positional first
+  arguments_by first _ = pure (one_part first)
+
+  -- expression {"," expression} | identifier "=>" expression {"," identifier "=>" expression}
+  unfoldable pub arguments : Reader (Arguments × Parts)
+  arguments = below layer.Expression >>= λ first fs. arguments_by first (peek marked fs) fs
+
+  -- ---- names
+
+  -- "." identifier
+  unfoldable pub selection : TallName → Reader TallName
+  selection n = expect marked k.Dot >>= λ u. identifier marked >>= λ selector. pure (with_step (step.Selected selector) [] 0 n)
+
+  -- "(" arguments ")"
+  unfoldable pub application : TallName → Reader TallName
+  application n = deeper levels 0 (do
     place ← expect_place marked k.LeftParenthesis
-    operand ← below layer.Expression
+    x ← arguments
     expect marked k.RightParenthesis
-    pure (applied function place operand))
+    pure (with_step (step.Applied place x.0) x.1.exprs x.1.height n))
 
-  abbrev pub attribute_by : Identifier → Identifier → Option Kind → Reader Tall
-  attribute_by prefix designator (Some k.LeftParenthesis) = application (function_of prefix (forms.Attribute designator))
-  attribute_by prefix designator _ = pure (leaf (expr.Name (Attribute prefix designator)))
+  -- "(" expression ")" after "'"
+  unfoldable pub qualification : TallName → Reader TallName
+  qualification n = deeper levels 0 (do
+    place ← expect_place marked k.LeftParenthesis
+    t ← below layer.Expression
+    expect marked k.RightParenthesis
+    pure (with_step (step.Qualified place) (t.expr ∷ []) (t.height + 1) n))
 
-  -- identifier [application] after identifier "'"
-  unfoldable pub attribute : Identifier → Reader Tall
-  attribute prefix = identifier marked >>= λ designator fs. attribute_by prefix designator (peek marked fs) fs
+  -- identifier after "'"
+  unfoldable pub attribute : TallName → Reader TallName
+  attribute n = identifier marked >>= λ designator. pure (with_step (step.Attribute designator) [] 0 n)
 
-  abbrev pub with_apostrophe_by : Identifier → Option Kind → Reader Tall
-  with_apostrophe_by prefix (Some k.LeftParenthesis) = application (function_of prefix forms.Qualified)
-  with_apostrophe_by prefix _ = attribute prefix
+  abbrev pub quotation_by : TallName → Option Kind → Reader TallName
+  quotation_by n (Some k.LeftParenthesis) = qualification n
+  quotation_by n _ = attribute n
 
-  -- "'" (application | identifier [application]) after an identifier
-  unfoldable pub with_apostrophe : Identifier → Reader Tall
-  with_apostrophe prefix = expect marked k.Apostrophe >>= λ u fs. with_apostrophe_by prefix (peek marked fs) fs
+  -- "'" identifier | "'" "(" expression ")"
+  unfoldable pub quotation : TallName → Reader TallName
+  quotation n = expect marked k.Apostrophe >>= λ u fs. quotation_by n (peek marked fs) fs
 
-  abbrev pub with_identifier_by : Identifier → Option Kind → Reader Tall
-  with_identifier_by prefix (Some k.Apostrophe) = with_apostrophe prefix
-  with_identifier_by prefix (Some k.LeftParenthesis) = application (function_of prefix forms.Simple)
-  with_identifier_by prefix (Some k.Tilde) = entry marked prefix
-  with_identifier_by prefix _ = pure (leaf (expr.Name (Simple prefix)))
+  -- "~"
+  unfoldable pub entry : TallName → Reader TallName
+  entry n = expect marked k.Tilde >>= λ u. pure (with_step step.Entry [] 0 n)
 
-  -- name | identifier ["'" identifier] "(" expression ")" | identifier "'" "(" expression ")" | identifier "~"
-  unfoldable pub with_identifier : Reader Tall
-  with_identifier = identifier marked >>= λ prefix fs. with_identifier_by prefix (peek marked fs) fs
+  abbrev pub step_read : TallName → StepKind → Reader TallName
+  step_read n steps.Selection = selection n
+  step_read n steps.Quotation = quotation n
+  step_read n steps.Application = application n
+  step_read n steps.Entry = entry n
+
+  abbrev pub name_step_by : TallName → Option StepKind → Option (Reader TallName)
+  name_step_by n None = None
+  name_step_by n (Some x) = Some (step_read n x)
+
+  abbrev pub name_step : TallName → Option Kind → Option (Reader TallName)
+  name_step n kind = name_step_by n (step_of kind)
+
+  -- {step}
+  unfoldable pub name_steps : TallName → Reader TallName
+  name_steps n = loop (peek marked) name_step n
+
+  -- identifier {step}
+  unfoldable pub tall_name : Reader TallName
+  tall_name = identifier marked >>= λ root. name_steps (root_name root)
+
+  -- a name as a primary
+  unfoldable pub name_primary : Reader Tall
+  name_primary = tall_name >>= λ n. pure (name_alone n)
 
   abbrev pub primary_by : Option Kind → Reader Tall
   primary_by (Some k.Number) = literal marked
-  primary_by (Some k.Identifier) = with_identifier
+  primary_by (Some k.Identifier) = name_primary
   primary_by (Some k.LeftParenthesis) = in_parentheses
   primary_by _ = refuse
 
-  -- number | what an identifier begins | "(" predicate ")"
+  -- number | name | "(" predicate ")"
   unfoldable pub primary : Reader Tall
   primary = λ fs. primary_by (peek marked fs) fs
 
@@ -221,7 +335,7 @@ module _ (marked : Bool) (below : Layer → Reader Tall) (levels : ℕ) where
     expect marked k.DoubleDot
     high ← below layer.Sum
     pure (in_range op place tested low high)
-  member_by op place tested low _ = type_by op place tested (plain_name low.expr)
+  member_by op place tested low _ = type_by op place tested low.height (plain_name low.expr)
 
   -- name | sum ".." sum
   unfoldable pub member : MemberOp → Place → Tall → Reader Tall
@@ -298,6 +412,10 @@ below marked (suc levels) layer = read marked (below marked levels) levels layer
 -- an expression of this layer, within so many levels
 unfoldable pub at_layer : Bool → ℕ → Layer → Reader Tall
 at_layer marked levels layer = read marked (below marked levels) levels layer
+
+-- name
+unfoldable pub name : Bool → ℕ → Reader Name
+name marked levels = tall_name marked (below marked levels) levels >>= λ n. pure (record { path = n.path; parts = n.parts })
 
 -- expression
 unfoldable pub expression : Bool → ℕ → Reader Expr

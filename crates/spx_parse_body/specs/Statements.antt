@@ -5,6 +5,7 @@ use Rattle.spx_tree.specs.declared.token.Kind.TheVariants as k
 use Rattle.spx_text.specs.declared.place.Place.{Place}
 use Rattle.spx_tree.specs.declared.statement.Arm.{Arm}
 use Rattle.spx_tree.specs.declared.expression.Expr.{Expr}
+use Rattle.spx_tree.specs.declared.expression.Name.{Name}
 use Rattle.spx_tree.specs.declared.statement.Choice.{Choice}
 use Rattle.spx_tree.specs.declared.statement.Alternative.{Alternative}
 use Rattle.spx_tree.specs.declared.statement.Closing.{Closing}
@@ -136,6 +137,11 @@ while_scheme levels = do
 unfoldable pub direction : Reader Bool
 direction = if_seen program k.Reverse (expect program k.Reverse) >>= λ seen. pure (is_some seen)
 
+-- name one level down
+unfoldable pub type_below : ℕ → Reader Name
+type_below zero = too_deep
+type_below (suc levels) = name program levels
+
 -- "for" identifier "in" ["reverse"] name ["range" range]
 unfoldable pub for_scheme : ℕ → Reader Scheme
 for_scheme levels = do
@@ -143,7 +149,7 @@ for_scheme levels = do
   subject ← identifier program
   word ← expect_place program k.In
   is_reverse ← direction
-  type_name ← name program
+  type_name ← type_below levels
   bounds ← if_seen program k.Range (constraint_below levels)
   pure (For (record { place = place; name = subject; word = word; is_reverse = is_reverse; type_name = type_name; bounds = bounds }))
 
@@ -166,7 +172,7 @@ module _ (inner : Reader (List Stmt)) (levels : ℕ) where
   -- name ":=" expression ";"
   unfoldable pub assignment : Reader Stmt
   assignment = do
-    target ← name program
+    target ← name program levels
     expect program k.Assignment
     value ← expression program levels
     expect program k.Semicolon

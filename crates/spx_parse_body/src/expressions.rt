@@ -1,5 +1,5 @@
 // From tokens to names and expressions (Ada 95 RM 4.1 and 4.4).
-ghost use Rattle.std.specs.Prelude.{◌≡◌, ◌<◌, ◌≤◌, ◌+◌, ◌-◌, ◌^◌, IfOk, List};
+ghost use Rattle.std.specs.Prelude.{◌≡◌, ◌<◌, ◌≤◌, ◌+◌, ◌-◌, ◌^◌, max, IfOk, List};
 ghost use Rattle.spx_tree.specs.Form.{Form, keeps, ItsPlace};
 ghost use Rattle.spx_tree.specs.Written.{program};
 ghost use Rattle.spx_tree.specs.declared.token.Kind.TheVariants as k;
@@ -9,6 +9,10 @@ ghost use Rattle.spx_cursor.specs.Reading as reading;
 ghost use Rattle.spx_cursor.specs.Reading.{◌>>=◌ as ◌▷◌};
 ghost use Rattle.spx_cursor.specs.Answers.{Reads};
 
+use crate::names::{
+    Parts, StepKind, TallName, all_named, identifier_in, no_parts, one_part, plain_name, root_name,
+    step_of, with_named, with_part, with_step,
+};
 use spx_cursor::{
     ANNOTATION, Chain, Cursor, PROGRAM, Relator, Stop, abs_or_not, connective_of, last_layer,
     logical, operand_layer, operator_place, place_before, power_of, relator_of, right_layer,
@@ -16,13 +20,13 @@ use spx_cursor::{
 };
 use spx_text::Place;
 use spx_tree::{
-    Expr, Function, FunctionForm, Identifier, InfixOp, Kind, Layer, MemberOp, Name, Predicate,
+    Arguments, Expr, Identifier, InfixOp, Kind, Layer, MemberOp, Name, NameStep, Predicate,
     PrefixOp,
 };
-use sqlite_items::Boxed;
+use sqlite_items::{Boxed, Items};
 use std::alloc::{AllocError, Global};
 
-/// An expression, and how many parentheses, functions, operators and membership tests lie on the longest way down.
+/// An expression, and how many parentheses, operators and membership tests lie on the longest way down.
 #[derive(Drop)]
 pub struct Tall {
     pub expr: Boxed<Expr>,
@@ -102,22 +106,6 @@ fn literal(alloc: Global, cursor: &mut Cursor<'_>, marked: bool) -> Result<Tall,
     node(alloc, Expr::Number(value, place), 0)
 }
 
-/// Reads a name: an identifier, or an attribute.
-#[tactic(auto, unfolding(crate::specs::Expressions::name))]
-pub fn name(alloc: Global, cursor: &mut Cursor<'_>, marked: bool) -> Result<Name, Stop>
-    ensures { Reads (read.name marked cursor.old) result cursor.new }
-{
-    let prefix = cursor.identifier(alloc, marked)?;
-    match cursor.peek(marked) {
-        Some(Kind::Apostrophe) => {
-            cursor.expect(marked, Kind::Apostrophe)?;
-            let designator = cursor.identifier(alloc, marked)?;
-            Ok(Name::Attribute(prefix, designator))
-        }
-        _ => Ok(Name::Simple(prefix)),
-    }
-}
-
 // "(", an expression of this layer, ")"; answers the place of "("
 #[cycle(layers)]
 fn between_parentheses(
@@ -159,116 +147,367 @@ fn in_parentheses(
     )
 }
 
-// application = "(" expression ")", after a function
+// {"," expression}
 #[cycle(layers)]
-#[tactic(auto, using(crate::proofs::Levels::application_is))]
+#[tactic(auto, using(crate::proofs::Levels::more_parts_is))]
+fn more_parts(
+    alloc: Global,
+    cursor: &mut Cursor<'_>,
+    levels: u32,
+    marked: bool,
+    first: Parts,
+) -> Result<Parts, Stop>
+    requires some { 0 < levels }
+    requires first_low { first.height ≤ levels }
+    ensures gives { Reads (read.more_parts marked (read.below marked levels) levels first cursor.old) result cursor.new }
+    ensures low { IfOk result (λ parts. parts.height ≤ levels) }
+{
+    let mut parts = first;
+    'more: while cursor.sees(marked, Kind::Comma) {
+        cursor.expect(marked, Kind::Comma)?;
+        let part = below(alloc, cursor, levels, marked, Layer::Expression)?;
+        parts = with_part(parts, part)?;
+    }
+    Ok(parts)
+}
+
+// association = "=>" expression
+#[cycle(layers)]
+#[tactic(auto, unfolding(crate::specs::Expressions::association))]
+fn association(
+    alloc: Global,
+    cursor: &mut Cursor<'_>,
+    levels: u32,
+    marked: bool,
+) -> Result<Tall, Stop>
+    requires { 0 < levels }
+    ensures gives { Reads (read.association marked (read.below marked levels) levels cursor.old) result cursor.new }
+    ensures low { IfOk result (λ t. t.height < levels) }
+{
+    cursor.expect(marked, Kind::Arrow)?;
+    below(alloc, cursor, levels, marked, Layer::Expression)
+}
+
+// named_part = identifier association
+#[cycle(layers)]
+#[tactic(auto, unfolding(crate::specs::Expressions::named_part))]
+fn named_part(
+    alloc: Global,
+    cursor: &mut Cursor<'_>,
+    levels: u32,
+    marked: bool,
+) -> Result<(Identifier, Tall), Stop>
+    requires { 0 < levels }
+    ensures gives { Reads (read.named_part marked (read.below marked levels) levels cursor.old) result cursor.new }
+    ensures low { IfOk result (λ r. r.1.height < levels) }
+{
+    let name = cursor.identifier(alloc, marked)?;
+    let part = association(alloc, cursor, levels, marked)?;
+    Ok((name, part))
+}
+
+// {"," named_part}
+#[cycle(layers)]
+#[tactic(auto, using(crate::proofs::Levels::more_named_is))]
+fn more_named(
+    alloc: Global,
+    cursor: &mut Cursor<'_>,
+    levels: u32,
+    marked: bool,
+    first: Parts,
+) -> Result<Parts, Stop>
+    requires some { 0 < levels }
+    requires first_low { first.height ≤ levels }
+    ensures gives { Reads (read.more_named marked (read.below marked levels) levels first cursor.old) result cursor.new }
+    ensures low { IfOk result (λ parts. parts.height ≤ levels) }
+{
+    let mut parts = first;
+    'more: while cursor.sees(marked, Kind::Comma) {
+        cursor.expect(marked, Kind::Comma)?;
+        let (name, part) = named_part(alloc, cursor, levels, marked)?;
+        parts = with_named(parts, name, part)?;
+    }
+    Ok(parts)
+}
+
+// the arguments after their first expression
+#[cycle(layers)]
+#[tactic(auto, unfolding(crate::specs::Expressions::positional))]
+fn positional(
+    alloc: Global,
+    cursor: &mut Cursor<'_>,
+    levels: u32,
+    marked: bool,
+    first: Tall,
+) -> Result<(Arguments, Parts), Stop>
+    requires { first.height < levels }
+    ensures gives { Reads (read.positional marked (read.below marked levels) levels first cursor.old) result cursor.new }
+    ensures low { IfOk result (λ r. r.1.height ≤ levels) }
+{
+    let parts = with_part(no_parts(alloc), first)?;
+    let parts = more_parts(alloc, cursor, levels, marked, parts)?;
+    Ok((Arguments::Positional(parts.exprs.len()), parts))
+}
+
+// the arguments after their first formal
+#[cycle(layers)]
+#[tactic(auto, unfolding(crate::specs::Expressions::named))]
+fn named(
+    alloc: Global,
+    cursor: &mut Cursor<'_>,
+    levels: u32,
+    marked: bool,
+    name: Identifier,
+) -> Result<(Arguments, Parts), Stop>
+    requires { 0 < levels }
+    ensures gives { Reads (read.named marked (read.below marked levels) levels name cursor.old) result cursor.new }
+    ensures low { IfOk result (λ r. r.1.height ≤ levels) }
+{
+    let part = association(alloc, cursor, levels, marked)?;
+    let parts = with_named(no_parts(alloc), name, part)?;
+    let parts = more_named(alloc, cursor, levels, marked, parts)?;
+    Ok(all_named(alloc, parts))
+}
+
+// the arguments after their first expression, before "=>"
+#[cycle(layers)]
+fn named_by(
+    alloc: Global,
+    cursor: &mut Cursor<'_>,
+    levels: u32,
+    marked: bool,
+    first: Tall,
+) -> Result<(Arguments, Parts), Stop>
+    requires { first.height < levels }
+    ensures gives { Reads (read.named_by marked (read.below marked levels) levels first (read.identifier_in first.expr) cursor.old) result cursor.new }
+    ensures low { IfOk result (λ r. r.1.height ≤ levels) }
+{
+    match identifier_in(alloc, first.expr.get())? {
+        Some(name) => named(alloc, cursor, levels, marked, name),
+        None => Ok(one_part(alloc, first)?),
+    }
+}
+
+// arguments = expression {"," expression} | named_part {"," named_part}
+#[cycle(layers)]
+#[tactic(auto, unfolding(crate::specs::Expressions::arguments))]
+fn arguments(
+    alloc: Global,
+    cursor: &mut Cursor<'_>,
+    levels: u32,
+    marked: bool,
+) -> Result<(Arguments, Parts), Stop>
+    requires { 0 < levels }
+    ensures gives { Reads (read.arguments marked (read.below marked levels) levels cursor.old) result cursor.new }
+    ensures low { IfOk result (λ r. r.1.height ≤ levels) }
+{
+    let first = below(alloc, cursor, levels, marked, Layer::Expression)?;
+    match cursor.peek(marked) {
+        Some(Kind::Arrow) => named_by(alloc, cursor, levels, marked, first),
+        Some(Kind::Comma) => positional(alloc, cursor, levels, marked, first),
+        _ => Ok(one_part(alloc, first)?),
+    }
+}
+
+// "(" arguments ")"
+#[cycle(layers)]
+#[tactic(auto, unfolding(crate::specs::Expressions::application))]
 fn application(
     alloc: Global,
     cursor: &mut Cursor<'_>,
     levels: u32,
     marked: bool,
-    function: Function,
-) -> Result<Tall, Stop>
-    ensures gives { Reads (read.application marked (read.below marked levels) levels function cursor.old) result cursor.new }
-    ensures low { IfOk result (λ t. t.height ≤ levels) }
+    name: TallName,
+) -> Result<TallName, Stop>
+    requires { name.height ≤ levels }
+    ensures gives { Reads (read.application marked (read.below marked levels) levels name cursor.old) result cursor.new }
+    ensures low { IfOk result (λ n. n.height ≤ levels) }
 {
-    let (place, operand) = between_parentheses(alloc, cursor, levels, marked, Layer::Expression)?;
-    node(
-        alloc,
-        Expr::Applied(function, place, operand.expr),
-        operand.height + 1,
-    )
+    if levels == 0 {
+        return Err(cursor.too_deep());
+    }
+    let place = cursor.expect_place(marked, Kind::LeftParenthesis)?;
+    let (arguments, parts) = arguments(alloc, cursor, levels, marked)?;
+    cursor.expect(marked, Kind::RightParenthesis)?;
+    let step = NameStep::Applied(place, arguments);
+    Ok(with_step(name, step, parts.exprs, parts.height)?)
 }
 
-// attribute = identifier [application], after identifier "'"
+// "(" expression ")", after "'"
 #[cycle(layers)]
+#[tactic(auto, unfolding(crate::specs::Expressions::qualification))]
+fn qualification(
+    alloc: Global,
+    cursor: &mut Cursor<'_>,
+    levels: u32,
+    marked: bool,
+    name: TallName,
+) -> Result<TallName, Stop>
+    requires { name.height ≤ levels }
+    ensures gives { Reads (read.qualification marked (read.below marked levels) levels name cursor.old) result cursor.new }
+    ensures low { IfOk result (λ n. n.height ≤ levels) }
+{
+    if levels == 0 {
+        return Err(cursor.too_deep());
+    }
+    let place = cursor.expect_place(marked, Kind::LeftParenthesis)?;
+    let part = below(alloc, cursor, levels, marked, Layer::Expression)?;
+    cursor.expect(marked, Kind::RightParenthesis)?;
+    let mut exprs = Items::new(alloc);
+    let height = part.height + 1;
+    exprs.push(part.expr.into_inner())?;
+    Ok(with_step(name, NameStep::Qualified(place), exprs, height)?)
+}
+
+// attribute = identifier, after "'"
 #[tactic(auto, unfolding(crate::specs::Expressions::attribute))]
 fn attribute(
     alloc: Global,
     cursor: &mut Cursor<'_>,
     levels: u32,
     marked: bool,
-    prefix: Identifier,
-) -> Result<Tall, Stop>
-    ensures gives { Reads (read.attribute marked (read.below marked levels) levels prefix cursor.old) result cursor.new }
-    ensures low { IfOk result (λ t. t.height ≤ levels) }
+    name: TallName,
+) -> Result<TallName, Stop>
+    requires { name.height ≤ levels }
+    ensures gives { Reads (read.attribute marked (read.below marked levels) levels name cursor.old) result cursor.new }
+    ensures low { IfOk result (λ n. n.height ≤ levels) }
 {
     let designator = cursor.identifier(alloc, marked)?;
-    match cursor.peek(marked) {
-        Some(Kind::LeftParenthesis) => {
-            let form = FunctionForm::Attribute(designator);
-            let function = Function { name: prefix, form };
-            application(alloc, cursor, levels, marked, function)
-        }
-        _ => node(alloc, Expr::Name(Name::Attribute(prefix, designator)), 0),
-    }
+    Ok(with_step(name, NameStep::Attribute(designator), Items::new(alloc), 0)?)
 }
 
-// with_apostrophe = "'" (application | attribute), after an identifier
+// "'" (qualification | attribute)
 #[cycle(layers)]
-#[tactic(auto, unfolding(crate::specs::Expressions::with_apostrophe))]
-fn with_apostrophe(
+#[tactic(auto, unfolding(crate::specs::Expressions::quotation))]
+fn quotation(
     alloc: Global,
     cursor: &mut Cursor<'_>,
     levels: u32,
     marked: bool,
-    prefix: Identifier,
-) -> Result<Tall, Stop>
-    ensures gives { Reads (read.with_apostrophe marked (read.below marked levels) levels prefix cursor.old) result cursor.new }
-    ensures low { IfOk result (λ t. t.height ≤ levels) }
+    name: TallName,
+) -> Result<TallName, Stop>
+    requires { name.height ≤ levels }
+    ensures gives { Reads (read.quotation marked (read.below marked levels) levels name cursor.old) result cursor.new }
+    ensures low { IfOk result (λ n. n.height ≤ levels) }
 {
     cursor.expect(marked, Kind::Apostrophe)?;
     match cursor.peek(marked) {
-        Some(Kind::LeftParenthesis) => {
-            let form = FunctionForm::Qualified;
-            let function = Function { name: prefix, form };
-            application(alloc, cursor, levels, marked, function)
-        }
-        _ => attribute(alloc, cursor, levels, marked, prefix),
+        Some(Kind::LeftParenthesis) => qualification(alloc, cursor, levels, marked, name),
+        _ => attribute(alloc, cursor, levels, marked, name),
     }
 }
 
-// entry = "~", after an identifier
+// selection = "." identifier
+#[tactic(auto, unfolding(crate::specs::Expressions::selection))]
+fn selection(
+    alloc: Global,
+    cursor: &mut Cursor<'_>,
+    levels: u32,
+    marked: bool,
+    name: TallName,
+) -> Result<TallName, Stop>
+    requires { name.height ≤ levels }
+    ensures gives { Reads (read.selection marked (read.below marked levels) levels name cursor.old) result cursor.new }
+    ensures low { IfOk result (λ n. n.height ≤ levels) }
+{
+    cursor.expect(marked, Kind::Dot)?;
+    let selector = cursor.identifier(alloc, marked)?;
+    Ok(with_step(name, NameStep::Selected(selector), Items::new(alloc), 0)?)
+}
+
+// entry = "~"
 #[tactic(auto, unfolding(crate::specs::Expressions::entry))]
 fn entry(
     alloc: Global,
     cursor: &mut Cursor<'_>,
+    levels: u32,
     marked: bool,
-    identifier: Identifier,
-) -> Result<Tall, Stop>
-    ensures gives { Reads (read.entry marked identifier cursor.old) result cursor.new }
-    ensures low { IfOk result (λ t. t.height ≡ 0) }
+    name: TallName,
+) -> Result<TallName, Stop>
+    requires { name.height ≤ levels }
+    ensures gives { Reads (read.entry marked (read.below marked levels) levels name cursor.old) result cursor.new }
+    ensures low { IfOk result (λ n. n.height ≤ levels) }
 {
     cursor.expect(marked, Kind::Tilde)?;
-    node(alloc, Expr::Entry(identifier), 0)
+    Ok(with_step(name, NameStep::Entry, Items::new(alloc), 0)?)
 }
 
-// with_identifier = identifier [with_apostrophe | application | entry]
+// step = selection | quotation | application | entry
 #[cycle(layers)]
-#[tactic(auto, unfolding(crate::specs::Expressions::with_identifier))]
-fn with_identifier(
+fn step(
+    alloc: Global,
+    cursor: &mut Cursor<'_>,
+    levels: u32,
+    marked: bool,
+    kind: StepKind,
+    name: TallName,
+) -> Result<TallName, Stop>
+    requires { name.height ≤ levels }
+    ensures gives { Reads (read.step_read marked (read.below marked levels) levels name kind cursor.old) result cursor.new }
+    ensures low { IfOk result (λ n. n.height ≤ levels) }
+{
+    match kind {
+        StepKind::Selection => selection(alloc, cursor, levels, marked, name),
+        StepKind::Quotation => quotation(alloc, cursor, levels, marked, name),
+        StepKind::Application => application(alloc, cursor, levels, marked, name),
+        StepKind::Entry => entry(alloc, cursor, levels, marked, name),
+    }
+}
+
+// {step}
+#[cycle(layers)]
+#[tactic(auto, using(crate::proofs::Levels::name_steps_is))]
+fn name_steps(
+    alloc: Global,
+    cursor: &mut Cursor<'_>,
+    levels: u32,
+    marked: bool,
+    first: TallName,
+) -> Result<TallName, Stop>
+    requires { first.height ≤ levels }
+    ensures gives { Reads (read.name_steps marked (read.below marked levels) levels first cursor.old) result cursor.new }
+    ensures low { IfOk result (λ n. n.height ≤ levels) }
+{
+    let mut name = first;
+    'more: while let Some(kind) = step_of(cursor.peek(marked)) {
+        name = step(alloc, cursor, levels, marked, kind, name)?;
+    }
+    Ok(name)
+}
+
+// tall_name = identifier {step}
+#[cycle(layers)]
+#[tactic(auto, unfolding(crate::specs::Expressions::tall_name))]
+fn tall_name(
+    alloc: Global,
+    cursor: &mut Cursor<'_>,
+    levels: u32,
+    marked: bool,
+) -> Result<TallName, Stop>
+    ensures gives { Reads (read.tall_name marked (read.below marked levels) levels cursor.old) result cursor.new }
+    ensures low { IfOk result (λ n. n.height ≤ levels) }
+{
+    let root = cursor.identifier(alloc, marked)?;
+    name_steps(alloc, cursor, levels, marked, root_name(alloc, root))
+}
+
+// name_primary = tall_name
+#[cycle(layers)]
+#[tactic(auto, unfolding(crate::specs::Expressions::name_primary))]
+fn name_primary(
     alloc: Global,
     cursor: &mut Cursor<'_>,
     levels: u32,
     marked: bool,
 ) -> Result<Tall, Stop>
-    ensures gives { Reads (read.with_identifier marked (read.below marked levels) levels cursor.old) result cursor.new }
+    ensures gives { Reads (read.name_primary marked (read.below marked levels) levels cursor.old) result cursor.new }
     ensures low { IfOk result (λ t. t.height ≤ levels) }
 {
-    let prefix = cursor.identifier(alloc, marked)?;
-    match cursor.peek(marked) {
-        Some(Kind::Apostrophe) => with_apostrophe(alloc, cursor, levels, marked, prefix),
-        Some(Kind::LeftParenthesis) => {
-            let form = FunctionForm::Simple;
-            let function = Function { name: prefix, form };
-            application(alloc, cursor, levels, marked, function)
-        }
-        Some(Kind::Tilde) => entry(alloc, cursor, marked, prefix),
-        _ => node(alloc, Expr::Name(Name::Simple(prefix)), 0),
-    }
+    let name = tall_name(alloc, cursor, levels, marked)?;
+    node(alloc, Expr::Name(name.path, name.parts), name.height)
 }
 
-// primary = number | with_identifier | in_parentheses
+// primary = literal | name_primary | in_parentheses
 #[cycle(layers)]
 #[tactic(auto, unfolding(crate::specs::Expressions::primary))]
 fn primary(alloc: Global, cursor: &mut Cursor<'_>, levels: u32, marked: bool) -> Result<Tall, Stop>
@@ -277,7 +516,7 @@ fn primary(alloc: Global, cursor: &mut Cursor<'_>, levels: u32, marked: bool) ->
 {
     match cursor.peek(marked) {
         Some(Kind::Number) => literal(alloc, cursor, marked),
-        Some(Kind::Identifier) => with_identifier(alloc, cursor, levels, marked),
+        Some(Kind::Identifier) => name_primary(alloc, cursor, levels, marked),
         Some(Kind::LeftParenthesis) => in_parentheses(alloc, cursor, levels, marked),
         _ => Err(cursor.expected()),
     }
@@ -433,23 +672,6 @@ fn sum(alloc: Global, cursor: &mut Cursor<'_>, levels: u32, marked: bool) -> Res
     chained(alloc, cursor, levels, marked, Chain::Adding, first)
 }
 
-/// The name that an expression is.
-fn plain_name(expr: Expr) -> Option<Name>
-    ensures { result ≡ read.plain_name expr }
-{
-    match expr {
-        Expr::Name(name) => Some(name),
-        Expr::Number(_, _) => None,
-        Expr::Entry(_) => None,
-        Expr::Applied(_, _, _) => None,
-        Expr::Parenthesized(_, _) => None,
-        Expr::Prefix(_, _, _) => None,
-        Expr::Infix(_, _, _, _) => None,
-        Expr::InType(_, _, _, _) => None,
-        Expr::InRange(_, _, _, _, _) => None,
-    }
-}
-
 /// A membership test in the type of this name, where there is one.
 fn member_type(
     alloc: Global,
@@ -457,22 +679,23 @@ fn member_type(
     op: MemberOp,
     place: Place,
     tested: Tall,
+    high: u32,
     type_name: Option<Name>,
 ) -> Result<Tall, Stop>
-    requires { tested.height < 2 ^ 32 - 1 }
-    ensures gives { Reads (read.type_by op place tested type_name cursor.now) result cursor.now }
-    ensures low { IfOk result (λ t. t.height ≡ tested.height + 1) }
+    requires tested_low { tested.height < 2 ^ 32 - 1 }
+    requires low { high < 2 ^ 32 - 1 }
+    ensures gives { Reads (read.type_by op place tested high type_name cursor.now) result cursor.now }
+    ensures taller { IfOk result (λ t. t.height ≡ max tested.height high + 1) }
 {
-    match type_name {
-        Some(type_name) => {
-            node(
-                alloc,
-                Expr::InType(op, place, tested.expr, type_name),
-                tested.height + 1,
-            )
-        }
-        None => Err(cursor.expected()),
-    }
+    let Some(type_name) = type_name else {
+        return Err(cursor.expected());
+    };
+    let height = tested.height.max(high) + 1;
+    node(
+        alloc,
+        Expr::InType(op, place, tested.expr, type_name.path, type_name.parts),
+        height,
+    )
 }
 
 // member = name | sum ".." sum
@@ -504,9 +727,10 @@ fn member(
             )
         }
         _ => {
+            let high = low.height;
             let type_name = plain_name(low.expr.into_inner());
-            member_type(alloc, cursor, op, place, tested, type_name)
-        },
+            member_type(alloc, cursor, op, place, tested, high, type_name)
+        }
     }
 }
 
@@ -647,6 +871,18 @@ fn connection(
         Some(op) => infix(alloc, cursor, levels, marked, op, left),
         None => Ok(left),
     }
+}
+
+/// Reads a name.
+#[tactic(auto, unfolding(crate::specs::Expressions::name))]
+pub fn name(alloc: Global, cursor: &mut Cursor<'_>, levels: u32, marked: bool) -> Result<Name, Stop>
+    ensures { Reads (read.name marked levels cursor.old) result cursor.new }
+{
+    let name = tall_name(alloc, cursor, levels, marked)?;
+    Ok(Name {
+        path: name.path,
+        parts: name.parts,
+    })
 }
 
 /// Reads an expression.

@@ -5,6 +5,7 @@
 #![tactic(auto)]
 
 mod expressions;
+mod names;
 mod statements;
 
 pub use expressions::{expression, expression_at, name, predicate_after};

@@ -12,7 +12,8 @@ use crate::expressions::{at_layer, expr_below, name, predicate_after};
 use spx_cursor::{ANNOTATION, Cursor, PROGRAM, Stop};
 use spx_text::Place;
 use spx_tree::{
-    Alternative, Arm, AssertionKind, Choice, Closing, Count, Expr, Kind, Layer, Range, Scheme, Stmt,
+    Alternative, Arm, AssertionKind, Choice, Closing, Count, Expr, Kind, Layer, Name, Range,
+    Scheme, Stmt,
 };
 use sqlite_items::{Boxed, Items};
 use std::alloc::Global;
@@ -54,7 +55,7 @@ fn null_statement(cursor: &mut Cursor<'_>) -> Result<Stmt, Stop>
 fn assignment(alloc: Global, cursor: &mut Cursor<'_>, levels: u32) -> Result<Stmt, Stop>
     ensures { Reads (read.assignment (read.stmts_below levels) levels cursor.old) result cursor.new }
 {
-    let target = Boxed::new(alloc, name(alloc, cursor, PROGRAM)?)?;
+    let target = Boxed::new(alloc, name(alloc, cursor, levels, PROGRAM)?)?;
     cursor.expect(PROGRAM, Kind::Assignment)?;
     let value = at_layer(alloc, cursor, levels, PROGRAM, Layer::Expression)?.expr;
     cursor.expect(PROGRAM, Kind::Semicolon)?;
@@ -231,11 +232,7 @@ fn choice(alloc: Global, cursor: &mut Cursor<'_>, levels: u32) -> Result<Choice,
 
 // some_choices = choice {"|" choice}
 #[tactic(auto, using(crate::proofs::Callers::Turns::more_choices_is), unfolding(crate::specs::Statements::some_choices))]
-fn some_choices(
-    alloc: Global,
-    cursor: &mut Cursor<'_>,
-    levels: u32,
-) -> Result<Boxed<Items<Choice>>, Stop>
+fn some_choices(alloc: Global, cursor: &mut Cursor<'_>, levels: u32) -> Result<Items<Choice>, Stop>
     requires { 0 < levels }
     ensures { Reads (read.some_choices levels cursor.old) result cursor.new }
 {
@@ -245,7 +242,7 @@ fn some_choices(
         cursor.expect(PROGRAM, Kind::Bar)?;
         choices.push(choice(alloc, cursor, levels)?)?;
     }
-    Ok(Boxed::new(alloc, choices)?)
+    Ok(choices)
 }
 
 // choices = "others" | some_choices
@@ -254,7 +251,7 @@ fn choices(
     alloc: Global,
     cursor: &mut Cursor<'_>,
     levels: u32,
-) -> Result<Option<Boxed<Items<Choice>>>, Stop>
+) -> Result<Option<Items<Choice>>, Stop>
     requires { 0 < levels }
     ensures { Reads (read.choices levels cursor.old) result cursor.new }
 {
@@ -353,12 +350,12 @@ fn optional_bounds(
     alloc: Global,
     cursor: &mut Cursor<'_>,
     levels: u32,
-) -> Result<Option<Boxed<Range>>, Stop>
+) -> Result<Option<Range>, Stop>
     requires { 0 < levels }
     ensures { Reads (reading.if_seen program k.Range (read.constraint_below levels) cursor.old) result cursor.new }
 {
     if cursor.sees(PROGRAM, Kind::Range) {
-        return Ok(Some(Boxed::new(alloc, constraint(alloc, cursor, levels - 1)?)?));
+        return Ok(Some(constraint(alloc, cursor, levels - 1)?));
     }
     Ok(None)
 }
@@ -375,6 +372,15 @@ fn direction(cursor: &mut Cursor<'_>) -> Result<bool, Stop>
     Ok(false)
 }
 
+/// Reads a name, one level down.
+#[tactic(auto, using(crate::proofs::Levels::type_below_is))]
+fn type_below(alloc: Global, cursor: &mut Cursor<'_>, levels: u32) -> Result<Boxed<Name>, Stop>
+    requires { 0 < levels }
+    ensures { Reads (read.type_below levels cursor.old) result cursor.new }
+{
+    Ok(Boxed::new(alloc, name(alloc, cursor, levels - 1, PROGRAM)?)?)
+}
+
 // for_scheme = "for" identifier "in" direction name [constraint]
 #[tactic(auto, unfolding(crate::specs::Statements::for_scheme))]
 fn for_scheme(alloc: Global, cursor: &mut Cursor<'_>, levels: u32) -> Result<Scheme, Stop>
@@ -385,7 +391,7 @@ fn for_scheme(alloc: Global, cursor: &mut Cursor<'_>, levels: u32) -> Result<Sch
     let subject = Boxed::new(alloc, cursor.identifier(alloc, PROGRAM)?)?;
     let word = cursor.expect_place(PROGRAM, Kind::In)?;
     let is_reverse = direction(cursor)?;
-    let type_name = Boxed::new(alloc, name(alloc, cursor, PROGRAM)?)?;
+    let type_name = type_below(alloc, cursor, levels)?;
     let bounds = optional_bounds(alloc, cursor, levels)?;
     let count = Count {
         place,

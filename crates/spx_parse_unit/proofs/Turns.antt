@@ -22,27 +22,27 @@ more_identifiers_is marked found fs =
     items_is (sees marked k.Comma) (expect marked k.Comma >> identifier marked) (identifiers_shrinks marked) found fs
     ∙ next_is marked k.Comma (identifier marked) (loop (sees marked k.Comma) (item_step (expect marked k.Comma >> identifier marked))) found (sees marked k.Comma fs) fs
 
-pub more_names_is : (marked : Bool) (found : List Name) (fs : List Form) → more_names marked found fs ≡ next_by marked k.Comma (name marked) (more_names marked) found (sees marked k.Comma fs) fs
+pub more_names_is : (marked : Bool) (levels : ℕ) (found : List Name) (fs : List Form) → more_names marked levels found fs ≡ next_by marked k.Comma (name marked levels) (more_names marked levels) found (sees marked k.Comma fs) fs
 unfolding more_names
-more_names_is marked found fs =
-    items_is (sees marked k.Comma) (expect marked k.Comma >> name marked) (names_shrinks marked) found fs
-    ∙ next_is marked k.Comma (name marked) (loop (sees marked k.Comma) (item_step (expect marked k.Comma >> name marked))) found (sees marked k.Comma fs) fs
+more_names_is marked levels found fs =
+    items_is (sees marked k.Comma) (expect marked k.Comma >> name marked levels) (names_shrinks marked levels) found fs
+    ∙ next_is marked k.Comma (name marked levels) (loop (sees marked k.Comma) (item_step (expect marked k.Comma >> name marked levels))) found (sees marked k.Comma fs) fs
 
-pub more_derives_is : (found : List DerivesItem) (fs : List Form) → more_derives found fs ≡ next_by annotation k.Ampersand item more_derives found (sees annotation k.Ampersand fs) fs
+pub more_derives_is : (levels : ℕ) (found : List DerivesItem) (fs : List Form) → more_derives levels found fs ≡ next_by annotation k.Ampersand (item levels) (more_derives levels) found (sees annotation k.Ampersand fs) fs
 unfolding more_derives
-more_derives_is found fs =
-    items_is (sees annotation k.Ampersand) (expect annotation k.Ampersand >> item) derives_shrinks found fs
-    ∙ next_is annotation k.Ampersand item (loop (sees annotation k.Ampersand) (item_step (expect annotation k.Ampersand >> item))) found (sees annotation k.Ampersand fs) fs
+more_derives_is levels found fs =
+    items_is (sees annotation k.Ampersand) (expect annotation k.Ampersand >> item levels) (derives_shrinks levels) found fs
+    ∙ next_is annotation k.Ampersand (item levels) (loop (sees annotation k.Ampersand) (item_step (expect annotation k.Ampersand >> item levels))) found (sees annotation k.Ampersand fs) fs
 
-pub more_params_is : (found : List Param) (fs : List Form) → more_params found fs ≡ next_by program k.Semicolon param more_params found (sees program k.Semicolon fs) fs
+pub more_params_is : (levels : ℕ) (found : List Param) (fs : List Form) → more_params levels found fs ≡ next_by program k.Semicolon (param levels) (more_params levels) found (sees program k.Semicolon fs) fs
 unfolding more_params
-more_params_is found fs =
-    items_is (sees program k.Semicolon) (expect program k.Semicolon >> param) params_shrinks found fs
-    ∙ next_is program k.Semicolon param (loop (sees program k.Semicolon) (item_step (expect program k.Semicolon >> param))) found (sees program k.Semicolon fs) fs
+more_params_is levels found fs =
+    items_is (sees program k.Semicolon) (expect program k.Semicolon >> param levels) (params_shrinks levels) found fs
+    ∙ next_is program k.Semicolon (param levels) (loop (sees program k.Semicolon) (item_step (expect program k.Semicolon >> param levels))) found (sees program k.Semicolon fs) fs
 
-pub more_fields_is : (found : List FieldDecl) (fs : List Form) → more_fields found fs ≡ items_by field more_fields found (sees program k.Identifier fs) fs
+pub more_fields_is : (levels : ℕ) (found : List FieldDecl) (fs : List Form) → more_fields levels found fs ≡ items_by (field levels) (more_fields levels) found (sees program k.Identifier fs) fs
 unfolding more_fields
-more_fields_is found fs = items_is (sees program k.Identifier) field fields_shrinks found fs
+more_fields_is levels found fs = items_is (sees program k.Identifier) (field levels) (fields_shrinks levels) found fs
 
 pub more_declarations_is : (levels : ℕ) (found : List Decl) (fs : List Form) → more_declarations levels found fs ≡ items_by (declaration levels) (more_declarations levels) found (sees_declaration fs) fs
 unfolding more_declarations

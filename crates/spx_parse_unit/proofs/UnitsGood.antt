@@ -15,7 +15,7 @@ use Rattle.spx_tree.specs.declared.subprogram.WrittenMode.TheVariants as modes
 use Rattle.spx_tree.specs.declared.subprogram.Unit.TheVariants as unit
 use Rattle.spx_tree.specs.Form.{Form, bare, placed, named}
 use Rattle.spx_tree.specs.Written.{program, annotation, joined, following, separated, optional, written_identifier, written_identifiers, written_name, written_names, written_constraint, written_field, written_definition, written_initial, written_decl, written_decls, written_stmts, written_imports, written_item, written_derives, written_pre, written_post, written_mode, written_param, written_params, written_formal_part, written_subprogram, written_unit, written}
-use Rattle.spx_tree.specs.Grammar.{Each, OneOrMore, IfThere, IsIdentifiers, IsNames, IsExpr, IsRange, IsFieldDecl, IsDefinition, IsDecl, IsStmts, IsItem, IsDerives, IsPredicate, IsParam, IsFormalPart, IsSubprogram, IsUnit, IsFile}
+use Rattle.spx_tree.specs.Grammar.{Each, OneOrMore, IfThere, IsIdentifiers, IsName, IsNames, IsExpr, IsRange, IsFieldDecl, IsDefinition, IsDecl, IsStmts, IsItem, IsDerives, IsPredicate, IsParam, IsFormalPart, IsSubprogram, IsUnit, IsFile}
 use Rattle.spx_cursor.specs.Reading.{◌>>◌, peek, sees, expect, identifier, item_step}
 use Rattle.spx_parse_body.specs.Expressions.{name}
 use Rattle.spx_parse_unit.specs.declared.subprograms.HeadingParts.{HeadingParts}
@@ -51,107 +51,120 @@ identifiers_good marked = good_separated (written_identifier marked) Always mark
 
 -- ---- names
 
-next_name_starts : (marked : Bool) {L P : Type 0} → Starts L P (next (written_name marked) Always marked k.Comma) Always [] (Sees (sees marked k.Comma) true) (expect marked k.Comma >> name marked) (expect marked k.Comma >> name marked)
-next_name_starts marked = next_starts (written_name marked) Always marked k.Comma (sees marked k.Comma) (λ t xs ys. refl) refl (sees_kind marked k.Comma) refl (name_good marked)
+next_name_starts : (marked : Bool) (levels : ℕ) {L P : Type 0}
+    → Starts L P (next (written_name marked) (IsName levels) marked k.Comma) (IsName levels) [] (Sees (sees marked k.Comma) true) (expect marked k.Comma >> name marked levels) (expect marked k.Comma >> name marked (suc levels))
+next_name_starts marked levels = next_starts (written_name marked) (IsName levels) marked k.Comma (sees marked k.Comma) (λ t xs ys. refl) refl (sees_kind marked k.Comma) refl (name_good marked levels)
 
 -- names after others
-names_more : (marked : Bool) {L P : Type 0} (found : List Name) → Good L (P × IsNames found) (written_names marked) IsNames (written_names marked found) Any (more_names marked found) (more_names marked found)
+names_more : (marked : Bool) (levels : ℕ) {L P : Type 0} (found : List Name) → Good L (P × IsNames levels found) (written_names marked) (IsNames levels) (written_names marked found) Any (more_names marked levels found) (more_names marked (suc levels) found)
 unfolding more_names
-names_more marked {L} {P} = good_more L P (next (written_name marked) Always marked k.Comma) Always (written_names marked) IsNames (separated_adds (written_name marked) Always marked k.Comma) (sees marked k.Comma) (λ t xs ys. refl) refl (next_name_starts marked)
+names_more marked levels {L} {P} =
+    good_more L P (next (written_name marked) (IsName levels) marked k.Comma) (IsName levels) (written_names marked) (IsNames levels) (separated_adds (written_name marked) (IsName levels) marked k.Comma) (sees marked k.Comma) (λ t xs ys. refl) refl (next_name_starts marked levels)
 
 -- names that stand after a star
-star_more : {L P : Type 0} (found : List Name) → Good L (P × ⊤) (following (bare annotation k.Comma) (written_name annotation)) (λ xs. ⊤) (following (bare annotation k.Comma) (written_name annotation) found) Any (more_names annotation found) (more_names annotation found)
+star_more : {L P : Type 0} (levels : ℕ) (found : List Name)
+    → Good L (P × Each (IsName levels) found) (following (bare annotation k.Comma) (written_name annotation)) (Each (IsName levels)) (following (bare annotation k.Comma) (written_name annotation) found) Any (more_names annotation levels found) (more_names annotation (suc levels) found)
 unfolding more_names
-star_more {L} {P} = good_more L P (next (written_name annotation) Always annotation k.Comma) Always (following (bare annotation k.Comma) (written_name annotation)) (λ xs. ⊤) (λ found x f g. (following_added (written_name annotation) Always annotation k.Comma found x, tt)) (sees annotation k.Comma) (λ t xs ys. refl) refl (next_name_starts annotation)
+star_more {L} {P} levels =
+    good_more L P (next (written_name annotation) (IsName levels) annotation k.Comma) (IsName levels) (following (bare annotation k.Comma) (written_name annotation)) (Each (IsName levels))
+    (λ found x f g. (following_added (written_name annotation) (IsName levels) annotation k.Comma found x, all_added (IsName levels) found x f g)) (sees annotation k.Comma) (λ t xs ys. refl) refl (next_name_starts annotation levels)
 
-pub names_shrinks : (marked : Bool) → Shrinks (sees marked k.Comma) (item_step (expect marked k.Comma >> name marked))
-names_shrinks marked = separated_shrinks (written_name marked) Always marked k.Comma (sees marked k.Comma) (λ t xs ys. refl) refl (sees_kind marked k.Comma) refl {L = ⊤} (name_good marked) tt
+pub names_shrinks : (marked : Bool) (levels : ℕ) → Shrinks (sees marked k.Comma) (item_step (expect marked k.Comma >> name marked levels))
+names_shrinks marked levels = separated_shrinks (written_name marked) (IsName levels) marked k.Comma (sees marked k.Comma) (λ t xs ys. refl) refl (sees_kind marked k.Comma) refl {L = ⊤} (name_good marked levels) tt
 
-names_starts : {L P : Type 0} {on : List Form → Type 0} (marked : Bool) → ((fs : List Form) → on fs → peek marked fs ≡ Some k.Identifier) → Starts L P (written_names marked) IsNames [] on (names marked) (names marked)
+names_starts : {L P : Type 0} {on : List Form → Type 0} (marked : Bool) (levels : ℕ) → ((fs : List Form) → on fs → peek marked fs ≡ Some k.Identifier) → Starts L P (written_names marked) (IsNames levels) [] on (names marked levels) (names marked (suc levels))
 unfolding names
-names_starts marked here = starts_bind (name_starts marked here) (λ x. good_before (append-nil (written_name marked x)) (good_given (λ l. l) (λ l w. (tt, (tt, tt))) (names_more marked {P = ⊤} (x ∷ []))))
+names_starts marked levels here = starts_bind (name_starts marked levels here) (λ x. good_before (append-nil (written_name marked x)) (good_given (λ l. l) (λ l w. (tt, (w.1, tt))) (names_more marked levels {P = ⊤} (x ∷ []))))
 
-names_good : {L P : Type 0} (marked : Bool) → Good L P (written_names marked) IsNames [] Any (names marked) (names marked)
+names_good : {L P : Type 0} (marked : Bool) (levels : ℕ) → Good L P (written_names marked) (IsNames levels) [] Any (names marked levels) (names marked (suc levels))
 unfolding names more_names
-names_good marked = good_separated (written_name marked) Always marked k.Comma (sees marked k.Comma) (λ t xs ys. refl) refl (sees_kind marked k.Comma) refl (name_good marked)
+names_good marked levels = good_separated (written_name marked) (IsName levels) marked k.Comma (sees marked k.Comma) (λ t xs ys. refl) refl (sees_kind marked k.Comma) refl (name_good marked levels)
 
 -- ---- annotations
 
 written_in : Imports → List Form
 written_in i = written_imports i.itself i.names
 
-starred_starts : {L P : Type 0} {on : List Form → Type 0} → ((fs : List Form) → on fs → peek annotation fs ≡ Some k.Asterisk) → Starts L P written_in Always [] on starred starred
-unfolding starred written_in
-starred_starts here =
+-- what imports hold of names
+AreIn : ℕ → Imports → Type 0
+AreIn levels i = Each (IsName levels) i.names
+
+starred_starts : {L P : Type 0} {on : List Form → Type 0} (levels : ℕ) → ((fs : List Form) → on fs → peek annotation fs ≡ Some k.Asterisk) → Starts L P written_in (AreIn levels) [] on (starred levels) (starred (suc levels))
+unfolding starred written_in AreIn
+starred_starts levels here =
     starts_bind (starts_place annotation k.Asterisk here refl) (λ place.
-    good_bind (good_given (λ l. l) (λ l w. (tt, tt)) (star_more {P = ⊤} [])) (λ names.
-    good_pure (record { itself = Some place; names = names }) (λ l w. refl) (λ l w. tt)))
+    good_bind (good_given (λ l. l) (λ l w. (tt, tt)) (star_more {P = ⊤} levels [])) (λ names.
+    good_pure (record { itself = Some place; names = names }) (λ l w. refl) (λ l w. w.1)))
 
-unstarred_text : (names : List Name) → IsNames names → written_names annotation names ≡ written_imports None names
-unstarred_text names f = refl
+unstarred_text : (levels : ℕ) (names : List Name) → IsNames levels names → written_names annotation names ≡ written_imports None names
+unstarred_text levels names f = refl
 
-unstarred_starts : {L P : Type 0} {on : List Form → Type 0} → ((fs : List Form) → on fs → peek annotation fs ≡ Some k.Identifier) → Starts L P written_in Always [] on unstarred unstarred
-unfolding unstarred written_in
-unstarred_starts here = starts_bind (names_starts annotation here) (λ names. good_pure (record { itself = None; names = names }) (λ l w. unstarred_text names w.1) (λ l w. tt))
+each_name : (levels : ℕ) (names : List Name) → IsNames levels names → Each (IsName levels) names
+each_name levels [] f = absurd f
+each_name levels (x ∷ names) f = f
 
-imports_case : {L P : Type 0} (kind : Option Kind) → Case L P written_in Always [] (Sees (peek annotation) kind) (record { itself = None; names = [] }) (imports_by kind) (imports_by kind)
-unfolding written_in
-imports_case (Some k.Asterisk) = present (starred_starts (λ fs here. here))
-imports_case (Some k.Identifier) = present (unstarred_starts (λ fs here. here))
-imports_case _ = absent refl refl (λ l w. refl) (λ l w. tt)
+unstarred_starts : {L P : Type 0} {on : List Form → Type 0} (levels : ℕ) → ((fs : List Form) → on fs → peek annotation fs ≡ Some k.Identifier) → Starts L P written_in (AreIn levels) [] on (unstarred levels) (unstarred (suc levels))
+unfolding unstarred written_in AreIn
+unstarred_starts levels here = starts_bind (names_starts annotation levels here) (λ names. good_pure (record { itself = None; names = names }) (λ l w. unstarred_text levels names w.1) (λ l w. each_name levels names w.1))
 
-imports_good : {L P : Type 0} → Good L P written_in Always [] Any imports imports
+imports_case : {L P : Type 0} (levels : ℕ) (kind : Option Kind) → Case L P written_in (AreIn levels) [] (Sees (peek annotation) kind) (record { itself = None; names = [] }) (imports_by levels kind) (imports_by (suc levels) kind)
+unfolding written_in AreIn
+imports_case levels (Some k.Asterisk) = present (starred_starts levels (λ fs here. here))
+imports_case levels (Some k.Identifier) = present (unstarred_starts levels (λ fs here. here))
+imports_case levels _ = absent refl refl (λ l w. refl) (λ l w. tt)
+
+imports_good : {L P : Type 0} (levels : ℕ) → Good L P written_in (AreIn levels) [] Any (imports levels) (imports (suc levels))
 unfolding imports
-imports_good = good_option (peek annotation) (λ t xs ys. refl) (record { itself = None; names = [] }) imports_by imports_by refl refl imports_case
+imports_good levels = good_option (peek annotation) (λ t xs ys. refl) (record { itself = None; names = [] }) (imports_by levels) (imports_by (suc levels)) refl refl (imports_case levels)
 
-named_item_good : {L P : Type 0} → Good L P written_item IsItem [] Any named_item named_item
-unfolding named_item written_in
-named_item_good =
-    good_bind (names_good annotation) (λ exports.
+named_item_good : {L P : Type 0} (levels : ℕ) → Good L P written_item (IsItem levels) [] Any (named_item levels) (named_item (suc levels))
+unfolding named_item written_in AreIn
+named_item_good levels =
+    good_bind (names_good annotation levels) (λ exports.
     good_bind (good_expect annotation k.From) (λ u.
-    good_bind imports_good (λ imports.
-    good_pure (record { exports = exported.Names exports; imports = imports }) (λ l w. simp append_assoc) (λ l w. w.0.0.1))))
+    good_bind (imports_good levels) (λ imports.
+    good_pure (record { exports = exported.Names exports; imports = imports }) (λ l w. simp append_assoc) (λ l w. (w.0.0.1, w.1)))))
 
 -- imports that are names, one or more
-IsUnstarred : Imports → Type 0
-IsUnstarred i = (i.itself ≡ None) × IsNames i.names
+IsUnstarred : ℕ → Imports → Type 0
+IsUnstarred levels i = (i.itself ≡ None) × IsNames levels i.names
 
-unstarred_good : {L P : Type 0} → Good L P written_in IsUnstarred [] Any unstarred unstarred
+unstarred_good : {L P : Type 0} (levels : ℕ) → Good L P written_in (IsUnstarred levels) [] Any (unstarred levels) (unstarred (suc levels))
 unfolding unstarred written_in IsUnstarred
-unstarred_good = good_bind (names_good annotation) (λ names. good_pure (record { itself = None; names = names }) (λ l w. unstarred_text names w.1) (λ l w. (refl, w.1)))
+unstarred_good levels = good_bind (names_good annotation levels) (λ names. good_pure (record { itself = None; names = names }) (λ l w. unstarred_text levels names w.1) (λ l w. (refl, w.1)))
 
-null_item_starts : {L P : Type 0} {on : List Form → Type 0} → ((fs : List Form) → on fs → peek annotation fs ≡ Some k.Null) → Starts L P written_item IsItem [] on null_item null_item
+null_item_starts : {L P : Type 0} {on : List Form → Type 0} (levels : ℕ) → ((fs : List Form) → on fs → peek annotation fs ≡ Some k.Null) → Starts L P written_item (IsItem levels) [] on (null_item levels) (null_item (suc levels))
 unfolding null_item written_in IsUnstarred
-null_item_starts here =
+null_item_starts levels here =
     starts_bind (starts_place annotation k.Null here refl) (λ place.
     good_bind (good_expect annotation k.From) (λ u.
-    good_bind unstarred_good (λ imports.
+    good_bind (unstarred_good levels) (λ imports.
     good_pure (record { exports = exported.Null place; imports = imports }) (λ l w. refl) (λ l w. w.1))))
 
-item_ends : Ends written_item IsItem []
-item_ends = ((named_item_good {L = ⊤} {P = ⊤}).law tt tt).ends
+item_ends : (levels : ℕ) → Ends written_item (IsItem levels) []
+item_ends levels = ((named_item_good {L = ⊤} {P = ⊤} levels).law tt tt).ends
 
-item_case : {L P : Type 0} (kind : Option Kind) → Good L P written_item IsItem [] (Sees (peek annotation) kind) (item_by kind) (item_by kind)
-item_case (Some k.Identifier) = good_fewer (λ fs here. tt) named_item_good
-item_case (Some k.Null) = (null_item_starts (λ fs here. here)).good
-item_case _ = good_refuse (λ l w. item_ends)
+item_case : {L P : Type 0} (levels : ℕ) (kind : Option Kind) → Good L P written_item (IsItem levels) [] (Sees (peek annotation) kind) (item_by levels kind) (item_by (suc levels) kind)
+item_case levels (Some k.Identifier) = good_fewer (λ fs here. tt) (named_item_good levels)
+item_case levels (Some k.Null) = (null_item_starts levels (λ fs here. here)).good
+item_case levels _ = good_refuse (λ l w. item_ends levels)
 
-pub item_good : {L P : Type 0} → Good L P written_item IsItem [] Any item item
+pub item_good : {L P : Type 0} (levels : ℕ) → Good L P written_item (IsItem levels) [] Any (item levels) (item (suc levels))
 unfolding item
-item_good = good_choose (peek annotation) (λ t xs ys. refl) item_by item_by refl refl item_case
+item_good levels = good_choose (peek annotation) (λ t xs ys. refl) (item_by levels) (item_by (suc levels)) refl refl (item_case levels)
 
-pub derives_shrinks : Shrinks (sees annotation k.Ampersand) (item_step (expect annotation k.Ampersand >> item))
-derives_shrinks = separated_shrinks written_item IsItem annotation k.Ampersand (sees annotation k.Ampersand) (λ t xs ys. refl) refl (sees_kind annotation k.Ampersand) refl {L = ⊤} item_good tt
+pub derives_shrinks : (levels : ℕ) → Shrinks (sees annotation k.Ampersand) (item_step (expect annotation k.Ampersand >> item levels))
+derives_shrinks levels = separated_shrinks written_item (IsItem levels) annotation k.Ampersand (sees annotation k.Ampersand) (λ t xs ys. refl) refl (sees_kind annotation k.Ampersand) refl {L = ⊤} (item_good levels) tt
 
-items_good : {L P : Type 0} → Good L P (separated (bare annotation k.Ampersand) written_item) (OneOrMore IsItem) [] Any items items
+items_good : {L P : Type 0} (levels : ℕ) → Good L P (separated (bare annotation k.Ampersand) written_item) (OneOrMore (IsItem levels)) [] Any (items levels) (items (suc levels))
 unfolding items more_derives
-items_good = good_separated written_item IsItem annotation k.Ampersand (sees annotation k.Ampersand) (λ t xs ys. refl) refl (sees_kind annotation k.Ampersand) refl item_good
+items_good levels = good_separated written_item (IsItem levels) annotation k.Ampersand (sees annotation k.Ampersand) (λ t xs ys. refl) refl (sees_kind annotation k.Ampersand) refl (item_good levels)
 
-derives_starts : {L P : Type 0} {on : List Form → Type 0} → ((fs : List Form) → on fs → peek annotation fs ≡ Some k.Derives) → Starts L P written_derives IsDerives [] on derives derives
+derives_starts : {L P : Type 0} {on : List Form → Type 0} (levels : ℕ) → ((fs : List Form) → on fs → peek annotation fs ≡ Some k.Derives) → Starts L P written_derives (IsDerives levels) [] on (derives levels) (derives (suc levels))
 unfolding derives
-derives_starts here =
+derives_starts levels here =
     starts_bind (starts_place annotation k.Derives here refl) (λ place.
-    good_bind items_good (λ items.
+    good_bind (items_good levels) (λ items.
     good_bind (good_expect annotation k.Semicolon) (λ u.
     good_pure (record { place = place; items = items }) (λ l w. refl) (λ l w. w.0.1))))
 
@@ -174,27 +187,27 @@ mode_good : {L P : Type 0} → Good L P written_mode Always [] Any mode mode
 unfolding mode
 mode_good = good_option (peek program) (λ t xs ys. refl) modes.Unwritten mode_by mode_by refl refl mode_case
 
-pub param_good : {L P : Type 0} → Good L P written_param IsParam [] Any param param
+pub param_good : {L P : Type 0} (levels : ℕ) → Good L P written_param (IsParam levels) [] Any (param levels) (param (suc levels))
 unfolding param
-param_good =
+param_good levels =
     good_bind (identifiers_good program) (λ names.
     good_bind (good_expect program k.Colon) (λ u.
     good_bind mode_good (λ mode.
-    good_bind (name_good program) (λ type_name.
-    good_pure (record { names = names; mode = mode; type_name = type_name }) (λ l w. simp append_assoc) (λ l w. w.0.0.0.1)))))
+    good_bind (name_good program levels) (λ type_name.
+    good_pure (record { names = names; mode = mode; type_name = type_name }) (λ l w. simp append_assoc) (λ l w. (w.0.0.0.1, w.1))))))
 
-pub params_shrinks : Shrinks (sees program k.Semicolon) (item_step (expect program k.Semicolon >> param))
-params_shrinks = separated_shrinks written_param IsParam program k.Semicolon (sees program k.Semicolon) (λ t xs ys. refl) refl (sees_kind program k.Semicolon) refl {L = ⊤} param_good tt
+pub params_shrinks : (levels : ℕ) → Shrinks (sees program k.Semicolon) (item_step (expect program k.Semicolon >> param levels))
+params_shrinks levels = separated_shrinks written_param (IsParam levels) program k.Semicolon (sees program k.Semicolon) (λ t xs ys. refl) refl (sees_kind program k.Semicolon) refl {L = ⊤} (param_good levels) tt
 
-params_good : {L P : Type 0} → Good L P written_params (OneOrMore IsParam) [] Any params params
+params_good : {L P : Type 0} (levels : ℕ) → Good L P written_params (OneOrMore (IsParam levels)) [] Any (params levels) (params (suc levels))
 unfolding params more_params
-params_good = good_separated written_param IsParam program k.Semicolon (sees program k.Semicolon) (λ t xs ys. refl) refl (sees_kind program k.Semicolon) refl param_good
+params_good levels = good_separated written_param (IsParam levels) program k.Semicolon (sees program k.Semicolon) (λ t xs ys. refl) refl (sees_kind program k.Semicolon) refl (param_good levels)
 
-formal_part_starts : {L P : Type 0} {on : List Form → Type 0} → ((fs : List Form) → on fs → peek program fs ≡ Some k.LeftParenthesis) → Starts L P written_formal_part IsFormalPart [] on formal_part formal_part
+formal_part_starts : {L P : Type 0} {on : List Form → Type 0} (levels : ℕ) → ((fs : List Form) → on fs → peek program fs ≡ Some k.LeftParenthesis) → Starts L P written_formal_part (IsFormalPart levels) [] on (formal_part levels) (formal_part (suc levels))
 unfolding formal_part
-formal_part_starts here =
+formal_part_starts levels here =
     starts_bind (starts_place program k.LeftParenthesis here refl) (λ place.
-    good_bind params_good (λ params.
+    good_bind (params_good levels) (λ params.
     good_bind (good_expect program k.RightParenthesis) (λ u.
     good_pure (record { place = place; params = params }) (λ l w. refl) (λ l w. w.0.1))))
 
@@ -212,47 +225,47 @@ enumeration_starts levels here =
     good_bind (good_expect program k.RightParenthesis) (λ u.
     good_pure (defined.Enumeration place literals) (λ l w. refl) (λ l w. w.0.1))))
 
-array_starts : {L P : Type 0} {on : List Form → Type 0} (levels : ℕ) → ((fs : List Form) → on fs → peek program fs ≡ Some k.Array) → Starts L P written_definition (IsDefinition levels) [] on array array
+array_starts : {L P : Type 0} {on : List Form → Type 0} (levels : ℕ) → ((fs : List Form) → on fs → peek program fs ≡ Some k.Array) → Starts L P written_definition (IsDefinition levels) [] on (array levels) (array (suc levels))
 unfolding array
 array_starts levels here =
     starts_bind (starts_expect program k.Array here refl) (λ u.
     good_bind (good_expect_place program k.LeftParenthesis) (λ place.
-    good_bind (name_good program) (λ index.
+    good_bind (name_good program levels) (λ index.
     good_bind (good_expect program k.RightParenthesis) (λ v.
     good_bind (good_expect program k.Of) (λ s.
-    good_bind (name_good program) (λ element.
-    good_pure (defined.Array place index element) (λ l w. simp append_assoc) (λ l w. tt)))))))
+    good_bind (name_good program levels) (λ element.
+    good_pure (defined.Array place index element) (λ l w. simp append_assoc) (λ l w. (w.0.0.0.1, w.1))))))))
 
-field_starts : {L P : Type 0} {on : List Form → Type 0} → ((fs : List Form) → on fs → peek program fs ≡ Some k.Identifier) → Starts L P written_field IsFieldDecl [] on field field
+field_starts : {L P : Type 0} {on : List Form → Type 0} (levels : ℕ) → ((fs : List Form) → on fs → peek program fs ≡ Some k.Identifier) → Starts L P written_field (IsFieldDecl levels) [] on (field levels) (field (suc levels))
 unfolding field
-field_starts here =
+field_starts levels here =
     starts_bind (identifiers_starts program here) (λ names.
     good_bind (good_expect program k.Colon) (λ u.
-    good_bind (name_good program) (λ type_name.
+    good_bind (name_good program levels) (λ type_name.
     good_bind (good_expect program k.Semicolon) (λ v.
-    good_pure (record { names = names; type_name = type_name }) (λ l w. simp append_assoc) (λ l w. w.0.0.0.1)))))
+    good_pure (record { names = names; type_name = type_name }) (λ l w. simp append_assoc) (λ l w. (w.0.0.0.1, w.0.1))))))
 
-field_good : {L P : Type 0} → Good L P written_field IsFieldDecl [] Any field field
+field_good : {L P : Type 0} (levels : ℕ) → Good L P written_field (IsFieldDecl levels) [] Any (field levels) (field (suc levels))
 unfolding field
-field_good =
+field_good levels =
     good_bind (identifiers_good program) (λ names.
     good_bind (good_expect program k.Colon) (λ u.
-    good_bind (name_good program) (λ type_name.
+    good_bind (name_good program levels) (λ type_name.
     good_bind (good_expect program k.Semicolon) (λ v.
-    good_pure (record { names = names; type_name = type_name }) (λ l w. simp append_assoc) (λ l w. w.0.0.0.1)))))
+    good_pure (record { names = names; type_name = type_name }) (λ l w. simp append_assoc) (λ l w. (w.0.0.0.1, w.0.1))))))
 
-pub fields_shrinks : Shrinks (sees program k.Identifier) (item_step field)
-fields_shrinks = items_shrinks written_field IsFieldDecl (sees program k.Identifier) (λ t xs ys. refl) refl {L = ⊤} (field_starts (sees_kind program k.Identifier)) tt
+pub fields_shrinks : (levels : ℕ) → Shrinks (sees program k.Identifier) (item_step (field levels))
+fields_shrinks levels = items_shrinks written_field (IsFieldDecl levels) (sees program k.Identifier) (λ t xs ys. refl) refl {L = ⊤} (field_starts levels (sees_kind program k.Identifier)) tt
 
-fields_good : {L P : Type 0} → Good L P (λ xs. joined (map written_field xs)) (OneOrMore IsFieldDecl) [] Any fields fields
+fields_good : {L P : Type 0} (levels : ℕ) → Good L P (λ xs. joined (map written_field xs)) (OneOrMore (IsFieldDecl levels)) [] Any (fields levels) (fields (suc levels))
 unfolding fields more_fields
-fields_good = good_some_items written_field IsFieldDecl (sees program k.Identifier) (λ t xs ys. refl) refl (field_starts (sees_kind program k.Identifier)) field_good
+fields_good levels = good_some_items written_field (IsFieldDecl levels) (sees program k.Identifier) (λ t xs ys. refl) refl (field_starts levels (sees_kind program k.Identifier)) (field_good levels)
 
-record_starts : {L P : Type 0} {on : List Form → Type 0} (levels : ℕ) → ((fs : List Form) → on fs → peek program fs ≡ Some k.Record) → Starts L P written_definition (IsDefinition levels) [] on record_definition record_definition
+record_starts : {L P : Type 0} {on : List Form → Type 0} (levels : ℕ) → ((fs : List Form) → on fs → peek program fs ≡ Some k.Record) → Starts L P written_definition (IsDefinition levels) [] on (record_definition levels) (record_definition (suc levels))
 unfolding record_definition
 record_starts levels here =
     starts_bind (starts_expect program k.Record here refl) (λ u.
-    good_bind fields_good (λ fields.
+    good_bind (fields_good levels) (λ fields.
     good_bind (good_expect_place program k.End) (λ end.
     good_bind (good_expect program k.Record) (λ v.
     good_pure (defined.Record fields end) (λ l w. simp append_assoc) (λ l w. w.0.0.1)))))
@@ -287,10 +300,10 @@ subtype_starts levels here =
     starts_bind (starts_expect program k.Subtype here refl) (λ u.
     good_bind (good_identifier program) (λ subject.
     good_bind (good_expect program k.Is) (λ v.
-    good_bind (name_good program) (λ parent.
+    good_bind (name_good program levels) (λ parent.
     good_bind (good_if_seen written_constraint (IsRange levels) program k.Range (constraint_starts levels (sees_kind program k.Range))) (λ range.
     good_bind (good_expect program k.Semicolon) (λ w.
-    good_pure (decl.Subtype subject parent range) (λ l w. simp append_assoc) (λ l w. w.0.1)))))))
+    good_pure (decl.Subtype subject parent range) (λ l w. simp append_assoc) (λ l w. (w.0.0.1, w.0.1))))))))
 
 -- identifiers and ":"
 abbrev named_text : List Identifier → List Form
@@ -304,21 +317,21 @@ variables_starts : {L P : Type 0} {on : List Form → Type 0} (levels : ℕ) (na
     → Starts L P written_decl (IsDecl levels) (named_text names) on (variables levels names) (variables (suc levels) names)
 unfolding variables
 variables_starts levels names f here =
-    starts_bind (name_starts program here) (λ type_name.
+    starts_bind (name_starts program levels here) (λ type_name.
     good_bind (good_if_seen written_initial (IsExpr levels) program k.Assignment (initial_starts levels)) (λ value.
     good_bind (good_expect program k.Semicolon) (λ u.
-    good_pure (decl.Variables names type_name value) (λ l w. simp append_assoc) (λ l w. (f w.0.0.0, w.0.1)))))
+    good_pure (decl.Variables names type_name value) (λ l w. simp append_assoc) (λ l w. (f w.0.0.0, w.0.0.1, w.0.1)))))
 
 constants_starts : {L P : Type 0} {on : List Form → Type 0} (levels : ℕ) (names : List Identifier) → (P → IsIdentifiers names) → ((fs : List Form) → on fs → peek program fs ≡ Some k.Constant)
     → Starts L P written_decl (IsDecl levels) (named_text names) on (constants levels names) (constants (suc levels) names)
 unfolding constants
 constants_starts levels names f here =
     starts_bind (starts_expect program k.Constant here refl) (λ u.
-    good_bind (good_if_seen (written_name program) Always program k.Identifier (name_starts program (sees_kind program k.Identifier))) (λ type_name.
+    good_bind (good_if_seen (written_name program) (IsName levels) program k.Identifier (name_starts program levels (sees_kind program k.Identifier))) (λ type_name.
     good_bind (good_expect program k.Assignment) (λ v.
     good_bind (expression_good program levels) (λ value.
     good_bind (good_expect program k.Semicolon) (λ s.
-    good_pure (decl.Constants names type_name value) (λ l w. simp append_assoc) (λ l w. (f w.0.0.0.0.0, w.0.1)))))))
+    good_pure (decl.Constants names type_name value) (λ l w. simp append_assoc) (λ l w. (f w.0.0.0.0.0, w.0.0.0.1, w.0.1)))))))
 
 objects_end : (levels : ℕ) (names : List Identifier) → IsIdentifiers names → Ends written_decl (IsDecl levels) (named_text names)
 objects_end levels names f = ((variables_starts {L = ⊤} {P = ⊤} {on = λ fs. peek program fs ≡ Some k.Identifier} levels names (λ w. f) (λ fs here. here)).good.law tt tt).ends
@@ -380,8 +393,8 @@ abbrev pub written_body : BodyParts → List Form
 written_body b = bare program k.Is ∷ (written_decls b.declarations ++ (bare program k.Begin ∷ (written_stmts b.statements ++ (placed program k.End b.end ∷ (optional (written_identifier program) b.end_name ++ bare program k.Semicolon ∷ [])))))
 
 pub record IsHeading (levels : ℕ) (h : HeadingParts) : Type 0 where
-  pub formal_part : IfThere IsFormalPart h.formal_part
-  pub derives : IfThere IsDerives h.derives
+  pub formal_part : IfThere (IsFormalPart levels) h.formal_part
+  pub derives : IfThere (IsDerives levels) h.derives
   pub pre : IfThere (IsPredicate levels) h.pre
   pub post : IfThere (IsPredicate levels) h.post
 
@@ -403,8 +416,8 @@ unfolding heading
 heading_starts levels here =
     starts_bind (starts_place program k.Procedure here refl) (λ place.
     good_bind (good_identifier program) (λ name.
-    good_bind (good_if_seen written_formal_part IsFormalPart program k.LeftParenthesis (formal_part_starts (sees_kind program k.LeftParenthesis))) (λ formal_part.
-    good_bind (good_if_seen written_derives IsDerives annotation k.Derives (derives_starts (sees_kind annotation k.Derives))) (λ derives.
+    good_bind (good_if_seen written_formal_part (IsFormalPart levels) program k.LeftParenthesis (formal_part_starts levels (sees_kind program k.LeftParenthesis))) (λ formal_part.
+    good_bind (good_if_seen written_derives (IsDerives levels) annotation k.Derives (derives_starts levels (sees_kind annotation k.Derives))) (λ derives.
     good_bind (good_if_seen written_pre (IsPredicate levels) annotation k.Pre (predicate_after_starts k.Pre levels refl (sees_kind annotation k.Pre))) (λ pre.
     good_bind (good_if_seen written_post (IsPredicate levels) annotation k.Post (predicate_after_starts k.Post levels refl (sees_kind annotation k.Post))) (λ post.
     good_pure (record { place = place; name = name; formal_part = formal_part; derives = derives; pre = pre; post = post })

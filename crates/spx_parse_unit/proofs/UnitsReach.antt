@@ -1,6 +1,6 @@
 -- The forms of declarations, annotations, subprograms and units are read as those.
 use Rattle.std.specs.Prelude.{⊤}
-use Rattle.std.proofs.Common.{◌≡◌, ℕ, Bool, true, false, List, [], ◌∷◌, ◌++◌, map, Option, Some, None, refl, sym, ap, ◌∙◌, append_assoc}
+use Rattle.std.proofs.Common.{◌≡◌, ℕ, ◌<◌, arith, Bool, true, false, List, [], ◌∷◌, ◌++◌, map, Option, Some, None, refl, sym, ap, ◌∙◌, append_assoc}
 use Rattle.spx_text.specs.declared.place.Place.{Place}
 use Rattle.spx_tree.specs.declared.token.Kind.{Kind}
 use Rattle.spx_tree.specs.declared.token.Kind.TheVariants as k
@@ -28,7 +28,7 @@ use Rattle.spx_tree.specs.declared.subprogram.Unit.{Unit}
 use Rattle.spx_tree.specs.declared.subprogram.Unit.TheVariants as unit
 use Rattle.spx_tree.specs.Form.{Form, bare, placed, named}
 use Rattle.spx_tree.specs.Written.{program, annotation, written_at, joined, following, separated, optional, written_identifier, written_identifiers, written_name, written_names, written_expr, written_constraint, written_field, written_definition, written_initial, written_decl, written_decls, written_stmts, written_imports, written_item, written_derives, written_pre, written_post, written_mode, written_param, written_params, written_formal_part, written_subprogram, written_unit, written}
-use Rattle.spx_tree.specs.Grammar.{Each, OneOrMore, IfThere, IsIdentifiers, IsNames, IsExpr, IsFieldDecl, IsDefinition, IsDecl, HasImportsFor, IsItem, IsDerives, IsPredicate, IsParam, IsFormalPart, IsSubprogram, IsUnit, IsFile}
+use Rattle.spx_tree.specs.Grammar.{Each, OneOrMore, IfThere, IsIdentifiers, IsName, IsNames, IsExpr, IsFieldDecl, IsDefinition, IsDecl, HasImportsFor, IsItem, IsDerives, IsPredicate, IsParam, IsFormalPart, IsSubprogram, IsUnit, IsFile}
 use Rattle.spx_cursor.specs.Reading.{pure, peek, is_kind, sees, identifier, optional_by, if_seen}
 use Rattle.spx_parse_body.specs.Expressions.{name, predicate_after}
 use Rattle.spx_parse_unit.specs.declared.subprograms.HeadingParts.{HeadingParts}
@@ -37,7 +37,8 @@ use Rattle.spx_parse_unit.specs.Units.{more_identifiers, identifiers, more_names
 use Rattle.spx_parse_body.proofs.Callers.Shaped.{kind_self}
 use Rattle.spx_parse_body.proofs.Callers.Separated.{Lacks, not_seen, sees_front, reaches_following, reaches_separated, reaches_some_items, reaches_if_seen}
 use Rattle.spx_parse_body.proofs.Callers.Reaches.{Reaches, reaches_is, reaches_bind, reaches_pure, reaches_choose, reaches_expect, reaches_expect_place, reaches_identifier, reaches_items, peek_front}
-use Rattle.spx_parse_body.proofs.Callers.ExpressionsReach.{Free, name_again, name_front, expression_again, predicate_after_again, semicolon_free, sum_free}
+use Rattle.spx_parse_body.proofs.Callers.NamesReach.{strength, Free}
+use Rattle.spx_parse_body.proofs.Callers.ExpressionsReach.{name_again, name_front, expression_again, predicate_after_again, semicolon_free, sum_free}
 use Rattle.spx_parse_body.proofs.Callers.StatementsReach.{constraint_again, constraint_option, constraint_apart, stmts_again}
 use Rattle.spx_parse_unit.proofs.UnitsGood.{identifiers_shrinks, names_shrinks, derives_shrinks, params_shrinks, fields_shrinks, declarations_shrinks, units_shrinks}
 
@@ -50,28 +51,24 @@ identifiers_again marked xs fs zs f over h =
 
 -- what does not go on with a name
 abbrev Apart : Bool → List Form → Type 0
-Apart marked zs = Lacks marked k.Apostrophe zs
+Apart marked zs = 0 < strength (peek marked zs)
 
-apart_kind : (marked : Bool) (kind : Kind) (ws : List Form) → (kind ≡ k.Apostrophe → ⊥) → Apart marked (bare marked kind ∷ ws)
-apart_kind true kind ws differs e = differs cc
-apart_kind false kind ws differs e = differs cc
+apart_kind : (marked : Bool) (kind : Kind) (ws : List Form) → 0 < strength (Some kind) → Apart marked (bare marked kind ∷ ws)
+apart_kind true kind ws some = some
+apart_kind false kind ws some = some
 
 comma_next : (marked : Bool) (ws : List Form) → (sees marked k.Comma (bare marked k.Comma ∷ ws) ≡ true) × Apart marked (bare marked k.Comma ∷ ws)
-comma_next marked ws = (sees_front marked (bare marked k.Comma) ws refl, apart_kind marked k.Comma ws (λ e. cc))
+comma_next marked ws = (sees_front marked (bare marked k.Comma) ws refl, apart_kind marked k.Comma ws (omega arith))
 
-names_again : (marked : Bool) (xs : List Name) (fs zs : List Form) → IsNames xs → Lacks marked k.Comma zs → Apart marked zs → fs ≡ written_names marked xs ++ zs → Reaches (names marked) fs xs zs
+names_again : (marked : Bool) (levels : ℕ) (xs : List Name) (fs zs : List Form) → IsNames levels xs → Lacks marked k.Comma zs → Apart marked zs → fs ≡ written_names marked xs ++ zs → Reaches (names marked levels) fs xs zs
 unfolding names more_names
-names_again marked xs fs zs f over apart h =
-    reaches_separated (written_name marked) (λ x. ⊤) marked k.Comma (Apart marked) (sees marked k.Comma) (names_shrinks marked) (comma_next marked) (λ x gs ws g a e. name_again marked x gs ws a e) xs fs zs f (not_seen marked k.Comma zs over) apart h
+names_again marked levels xs fs zs f over apart h =
+    reaches_separated (written_name marked) (IsName levels) marked k.Comma (Apart marked) (sees marked k.Comma) (names_shrinks marked levels) (comma_next marked) (λ x gs ws g a e. name_again marked levels x gs ws g a e) xs fs zs f (not_seen marked k.Comma zs over) apart h
 
-each_name : (xs : List Name) → Each (λ x. ⊤) xs
-each_name [] = tt
-each_name (x ∷ xs) = (tt, each_name xs)
-
-star_again : (xs : List Name) (fs zs : List Form) → Lacks annotation k.Comma zs → Apart annotation zs → fs ≡ following (bare annotation k.Comma) (written_name annotation) xs ++ zs → Reaches (more_names annotation []) fs xs zs
+star_again : (levels : ℕ) (xs : List Name) (fs zs : List Form) → Each (IsName levels) xs → Lacks annotation k.Comma zs → Apart annotation zs → fs ≡ following (bare annotation k.Comma) (written_name annotation) xs ++ zs → Reaches (more_names annotation levels []) fs xs zs
 unfolding more_names
-star_again xs fs zs over apart h =
-    reaches_following (written_name annotation) (λ x. ⊤) annotation k.Comma (Apart annotation) (sees annotation k.Comma) (names_shrinks annotation) (comma_next annotation) (λ x gs ws g a e. name_again annotation x gs ws a e) [] xs fs zs (each_name xs) (not_seen annotation k.Comma zs over) apart h
+star_again levels xs fs zs f over apart h =
+    reaches_following (written_name annotation) (IsName levels) annotation k.Comma (Apart annotation) (sees annotation k.Comma) (names_shrinks annotation levels) (comma_next annotation) (λ x gs ws g a e. name_again annotation levels x gs ws g a e) [] xs fs zs f (not_seen annotation k.Comma zs over) apart h
 
 -- ---- annotations
 
@@ -82,68 +79,70 @@ record Closes (zs : List Form) : Type 0 where
   no_name : Lacks annotation k.Identifier zs
   apart : Apart annotation zs
 
-imports_plain : (kind : Option Kind) (us zs : List Form) → (kind ≡ Some k.Asterisk → ⊥) → (kind ≡ Some k.Identifier → ⊥) → us ≡ zs → Reaches (imports_by kind) us (record { itself = None; names = [] }) zs
-imports_plain (Some k.Asterisk) us zs a b e = absurd (a refl)
-imports_plain (Some k.Identifier) us zs a b e = absurd (b refl)
-imports_plain _ us zs a b e = reaches_pure e
+imports_plain : (levels : ℕ) (kind : Option Kind) (us zs : List Form) → (kind ≡ Some k.Asterisk → ⊥) → (kind ≡ Some k.Identifier → ⊥) → us ≡ zs → Reaches (imports_by levels kind) us (record { itself = None; names = [] }) zs
+imports_plain levels (Some k.Asterisk) us zs a b e = absurd (a refl)
+imports_plain levels (Some k.Identifier) us zs a b e = absurd (b refl)
+imports_plain levels _ us zs a b e = reaches_pure e
 
-imports_again : (itself : Option Place) (xs : List Name) (fs zs : List Form) → Closes zs → fs ≡ written_imports itself xs ++ zs → Reaches imports fs (record { itself = itself; names = xs }) zs
+imports_again : (levels : ℕ) (itself : Option Place) (xs : List Name) (fs zs : List Form) → Each (IsName levels) xs → Closes zs → fs ≡ written_imports itself xs ++ zs → Reaches (imports levels) fs (record { itself = itself; names = xs }) zs
 unfolding imports starred unstarred
-imports_again None [] fs zs over h = reaches_choose (peek annotation) imports_by (peek annotation zs) (peek_front annotation fs h) (imports_plain (peek annotation zs) fs zs over.no_star over.no_name h)
-imports_again None (x ∷ xs) fs zs over h =
-    reaches_choose (peek annotation) imports_by (Some k.Identifier) (peek_front annotation fs (h ∙ append_assoc (written_name annotation x) (following (bare annotation k.Comma) (written_name annotation) xs) zs) ∙ name_front annotation x _)
-    (reaches_bind _ (names_again annotation (x ∷ xs) fs zs (tt, each_name xs) over.no_comma over.apart h) (λ us a. reaches_pure a))
-imports_again (Some place) xs fs zs over h =
-    reaches_choose (peek annotation) imports_by (Some k.Asterisk) (peek_front annotation fs h)
+imports_again levels None [] fs zs f over h = reaches_choose (peek annotation) (imports_by levels) (peek annotation zs) (peek_front annotation fs h) (imports_plain levels (peek annotation zs) fs zs over.no_star over.no_name h)
+imports_again levels None (x ∷ xs) fs zs f over h =
+    reaches_choose (peek annotation) (imports_by levels) (Some k.Identifier)
+    (peek_front annotation fs (h ∙ append_assoc (written_name annotation x) (following (bare annotation k.Comma) (written_name annotation) xs) zs) ∙ name_front annotation x (following (bare annotation k.Comma) (written_name annotation) xs ++ zs))
+    (reaches_bind _ (names_again annotation levels (x ∷ xs) fs zs f over.no_comma over.apart h) (λ us a. reaches_pure a))
+imports_again levels (Some place) xs fs zs f over h =
+    reaches_choose (peek annotation) (imports_by levels) (Some k.Asterisk) (peek_front annotation fs h)
     (reaches_bind _ (reaches_expect_place annotation k.Asterisk h) (λ us a.
-    reaches_bind _ (star_again xs us zs over.no_comma over.apart a) (λ vs b. reaches_pure b)))
+    reaches_bind _ (star_again levels xs us zs f over.no_comma over.apart a) (λ vs b. reaches_pure b)))
 
-unstarred_again : (i : Imports) (fs zs : List Form) → i.itself ≡ None → IsNames i.names → Closes zs → fs ≡ written_imports i.itself i.names ++ zs → Reaches unstarred fs i zs
+unstarred_again : (levels : ℕ) (i : Imports) (fs zs : List Form) → i.itself ≡ None → IsNames levels i.names → Closes zs → fs ≡ written_imports i.itself i.names ++ zs → Reaches (unstarred levels) fs i zs
 unfolding unstarred
-unstarred_again i fs zs none f over h =
+unstarred_again levels i fs zs none f over h =
     reaches_is (ap (λ (o : Option Place). record { itself = o; names = i.names }) (sym none))
-    (reaches_bind (λ names. pure (record { itself = None; names = names })) (names_again annotation i.names fs zs f over.no_comma over.apart (h ∙ ap (λ (o : Option Place). written_imports o i.names ++ zs) none)) (λ us a. reaches_pure a))
+    (reaches_bind (λ names. pure (record { itself = None; names = names })) (names_again annotation levels i.names fs zs f over.no_comma over.apart (h ∙ ap (λ (o : Option Place). written_imports o i.names ++ zs) none)) (λ us a. reaches_pure a))
 
 item_made : Exports → Imports → DerivesItem
 item_made exports imports = record { exports = exports; imports = imports }
 
-exports_again : (e : Exports) (i : Imports) (fs zs : List Form) → HasImportsFor e i → Closes zs → fs ≡ written_item (item_made e i) ++ zs → Reaches item fs (item_made e i) zs
+exports_again : (levels : ℕ) (e : Exports) (i : Imports) (fs zs : List Form) → HasImportsFor levels e i → Closes zs → fs ≡ written_item (item_made e i) ++ zs → Reaches (item levels) fs (item_made e i) zs
 unfolding item named_item null_item item_made
-exports_again (exported.Names []) i fs zs f over h = absurd f
-exports_again (exported.Names (x ∷ xs)) i fs zs f over h =
+exports_again levels (exported.Names []) i fs zs f over h = absurd f.0
+exports_again levels (exported.Names (x ∷ xs)) i fs zs f over h =
     let flat = h ∙ append_assoc (written_names annotation (x ∷ xs)) (bare annotation k.From ∷ written_imports i.itself i.names) zs in
-    let first = flat ∙ append_assoc (written_name annotation x) (following (bare annotation k.Comma) (written_name annotation) xs) _ in
-    reaches_choose (peek annotation) item_by (Some k.Identifier) (peek_front annotation fs first ∙ name_front annotation x _)
-    (reaches_bind _ (names_again annotation (x ∷ xs) fs (bare annotation k.From ∷ (written_imports i.itself i.names ++ zs)) f (λ e. cc) (λ e. cc) flat) (λ us a.
+    let after : List Form = bare annotation k.From ∷ (written_imports i.itself i.names ++ zs) in
+    let first = flat ∙ append_assoc (written_name annotation x) (following (bare annotation k.Comma) (written_name annotation) xs) after in
+    reaches_choose (peek annotation) (item_by levels) (Some k.Identifier) (peek_front annotation fs first ∙ name_front annotation x (following (bare annotation k.Comma) (written_name annotation) xs ++ after))
+    (reaches_bind _ (names_again annotation levels (x ∷ xs) fs (bare annotation k.From ∷ (written_imports i.itself i.names ++ zs)) f.0 (λ e. cc) (omega arith) flat) (λ us a.
     reaches_bind _ (reaches_expect annotation k.From a) (λ vs b.
-    reaches_bind _ (imports_again i.itself i.names vs zs over b) (λ ws d. reaches_pure d))))
-exports_again (exported.Null place) i fs zs f over h =
-    reaches_choose (peek annotation) item_by (Some k.Null) (peek_front annotation fs h)
+    reaches_bind _ (imports_again levels i.itself i.names vs zs f.1 over b) (λ ws d. reaches_pure d))))
+exports_again levels (exported.Null place) i fs zs f over h =
+    reaches_choose (peek annotation) (item_by levels) (Some k.Null) (peek_front annotation fs h)
     (reaches_bind _ (reaches_expect_place annotation k.Null h) (λ us a.
     reaches_bind _ (reaches_expect annotation k.From a) (λ vs b.
-    reaches_bind _ (unstarred_again i vs zs f.0 f.1 over b) (λ ws d. reaches_pure d))))
+    reaches_bind _ (unstarred_again levels i vs zs f.0 f.1 over b) (λ ws d. reaches_pure d))))
 
-item_again : (x : DerivesItem) (fs zs : List Form) → IsItem x → Closes zs → fs ≡ written_item x ++ zs → Reaches item fs x zs
+item_again : (levels : ℕ) (x : DerivesItem) (fs zs : List Form) → IsItem levels x → Closes zs → fs ≡ written_item x ++ zs → Reaches (item levels) fs x zs
 unfolding item_made
-item_again x fs zs f over h = exports_again x.exports x.imports fs zs f over h
+item_again levels x fs zs f over h = exports_again levels x.exports x.imports fs zs f over h
 
 amper_closes : (ws : List Form) → Closes (bare annotation k.Ampersand ∷ ws)
-amper_closes ws = record { no_comma = λ e. cc; no_star = λ e. cc; no_name = λ e. cc; apart = λ e. cc }
+amper_closes ws = record { no_comma = λ e. cc; no_star = λ e. cc; no_name = λ e. cc; apart = omega arith }
 
 semicolon_closes : (ws : List Form) → Closes (bare annotation k.Semicolon ∷ ws)
-semicolon_closes ws = record { no_comma = λ e. cc; no_star = λ e. cc; no_name = λ e. cc; apart = λ e. cc }
+semicolon_closes ws = record { no_comma = λ e. cc; no_star = λ e. cc; no_name = λ e. cc; apart = omega arith }
 
-items_again : (xs : List DerivesItem) (fs zs : List Form) → OneOrMore IsItem xs → Lacks annotation k.Ampersand zs → Closes zs → fs ≡ separated (bare annotation k.Ampersand) written_item xs ++ zs → Reaches items fs xs zs
+items_again : (levels : ℕ) (xs : List DerivesItem) (fs zs : List Form) → OneOrMore (IsItem levels) xs → Lacks annotation k.Ampersand zs → Closes zs → fs ≡ separated (bare annotation k.Ampersand) written_item xs ++ zs → Reaches (items levels) fs xs zs
 unfolding items more_derives
-items_again xs fs zs f over stops h =
-    reaches_separated written_item IsItem annotation k.Ampersand Closes (sees annotation k.Ampersand) derives_shrinks (λ ws. (sees_front annotation (bare annotation k.Ampersand) ws refl, amper_closes ws)) item_again xs fs zs f (not_seen annotation k.Ampersand zs over) stops h
+items_again levels xs fs zs f over stops h =
+    reaches_separated written_item (IsItem levels) annotation k.Ampersand Closes (sees annotation k.Ampersand) (derives_shrinks levels) (λ ws. (sees_front annotation (bare annotation k.Ampersand) ws refl, amper_closes ws)) (item_again levels) xs fs zs f (not_seen annotation k.Ampersand zs over) stops h
 
-derives_again : (x : Derives) (fs zs : List Form) → IsDerives x → fs ≡ written_derives x ++ zs → Reaches derives fs x zs
+derives_again : (levels : ℕ) (x : Derives) (fs zs : List Form) → IsDerives levels x → fs ≡ written_derives x ++ zs → Reaches (derives levels) fs x zs
 unfolding derives
-derives_again x fs zs f h =
+derives_again levels x fs zs f h =
     let flat = h ∙ ap (λ (us : List Form). placed annotation k.Derives x.place ∷ us) (append_assoc (separated (bare annotation k.Ampersand) written_item x.items) (bare annotation k.Semicolon ∷ []) zs) in
     reaches_bind _ (reaches_expect_place annotation k.Derives flat) (λ us a.
-    reaches_bind _ (items_again x.items us (bare annotation k.Semicolon ∷ zs) f (λ e. cc) (semicolon_closes zs) a) (λ vs b.
+    reaches_bind _ (items_again levels x.items us (bare annotation k.Semicolon ∷ zs) f (λ e. cc) (semicolon_closes zs) a) (λ vs b.
     reaches_bind _ (reaches_expect annotation k.Semicolon b) (λ ws d. reaches_pure d)))
 
 -- ---- formal parameters
@@ -162,25 +161,25 @@ mode_again (modes.InOut place) fs zs next h =
     (reaches_bind _ (reaches_expect_place program k.In h) (λ us a. reaches_choose (peek program) (in_by place) (Some k.Out) (peek_front program us a)
     (reaches_bind _ (reaches_expect program k.Out a) (λ vs b. reaches_pure b))))
 
-param_again : (x : Param) (fs zs : List Form) → IsParam x → Apart program zs → fs ≡ written_param x ++ zs → Reaches param fs x zs
+param_again : (levels : ℕ) (x : Param) (fs zs : List Form) → IsParam levels x → Apart program zs → fs ≡ written_param x ++ zs → Reaches (param levels) fs x zs
 unfolding param
-param_again x fs zs f apart h =
-    reaches_bind _ (identifiers_again program x.names fs (bare program k.Colon ∷ ((written_mode x.mode ++ written_name program x.type_name) ++ zs)) f (λ e. cc) (h ∙ append_assoc (written_identifiers program x.names) _ zs)) (λ us a.
+param_again levels x fs zs f apart h =
+    reaches_bind _ (identifiers_again program x.names fs (bare program k.Colon ∷ ((written_mode x.mode ++ written_name program x.type_name) ++ zs)) f.0 (λ e. cc) (h ∙ append_assoc (written_identifiers program x.names) (bare program k.Colon ∷ (written_mode x.mode ++ written_name program x.type_name)) zs)) (λ us a.
     reaches_bind _ (reaches_expect program k.Colon a) (λ vs b.
     reaches_bind _ (mode_again x.mode vs (written_name program x.type_name ++ zs) (name_front program x.type_name zs) (b ∙ append_assoc (written_mode x.mode) (written_name program x.type_name) zs)) (λ ws d.
-    reaches_bind _ (name_again program x.type_name ws zs apart d) (λ xs e. reaches_pure e))))
+    reaches_bind _ (name_again program levels x.type_name ws zs f.1 apart d) (λ xs e. reaches_pure e))))
 
-params_again : (xs : List Param) (fs zs : List Form) → OneOrMore IsParam xs → Lacks program k.Semicolon zs → Apart program zs → fs ≡ written_params xs ++ zs → Reaches params fs xs zs
+params_again : (levels : ℕ) (xs : List Param) (fs zs : List Form) → OneOrMore (IsParam levels) xs → Lacks program k.Semicolon zs → Apart program zs → fs ≡ written_params xs ++ zs → Reaches (params levels) fs xs zs
 unfolding params more_params
-params_again xs fs zs f over apart h =
-    reaches_separated written_param IsParam program k.Semicolon (Apart program) (sees program k.Semicolon) params_shrinks (λ ws. (sees_front program (bare program k.Semicolon) ws refl, apart_kind program k.Semicolon ws (λ e. cc))) param_again xs fs zs f (not_seen program k.Semicolon zs over) apart h
+params_again levels xs fs zs f over apart h =
+    reaches_separated written_param (IsParam levels) program k.Semicolon (Apart program) (sees program k.Semicolon) (params_shrinks levels) (λ ws. (sees_front program (bare program k.Semicolon) ws refl, apart_kind program k.Semicolon ws (omega arith))) (param_again levels) xs fs zs f (not_seen program k.Semicolon zs over) apart h
 
-formal_part_again : (x : FormalPart) (fs zs : List Form) → IsFormalPart x → fs ≡ written_formal_part x ++ zs → Reaches formal_part fs x zs
+formal_part_again : (levels : ℕ) (x : FormalPart) (fs zs : List Form) → IsFormalPart levels x → fs ≡ written_formal_part x ++ zs → Reaches (formal_part levels) fs x zs
 unfolding formal_part
-formal_part_again x fs zs f h =
+formal_part_again levels x fs zs f h =
     let flat = h ∙ ap (λ (us : List Form). placed program k.LeftParenthesis x.place ∷ us) (append_assoc (written_params x.params) (bare program k.RightParenthesis ∷ []) zs) in
     reaches_bind _ (reaches_expect_place program k.LeftParenthesis flat) (λ us a.
-    reaches_bind _ (params_again x.params us (bare program k.RightParenthesis ∷ zs) f (λ e. cc) (λ e. cc) a) (λ vs b.
+    reaches_bind _ (params_again levels x.params us (bare program k.RightParenthesis ∷ zs) f (λ e. cc) (omega arith) a) (λ vs b.
     reaches_bind _ (reaches_expect program k.RightParenthesis b) (λ ws d. reaches_pure d)))
 
 -- ---- declarations
@@ -202,16 +201,16 @@ initial_option levels (Some x) fs zs f h =
 
 -- what stands after the type of variables does not go on with it
 initial_apart : (x : Option Expr) (zs : List Form) → Apart program (optional written_initial x ++ bare program k.Semicolon ∷ zs)
-initial_apart None zs e = cc
-initial_apart (Some x) zs e = cc
+initial_apart None zs = omega arith
+initial_apart (Some x) zs = omega arith
 
 -- the type of a constant, before ":="
-type_option : (x : Option Name) (fs zs : List Form) → fs ≡ optional (written_name program) x ++ bare program k.Assignment ∷ zs → Reaches (if_seen program k.Identifier (name program)) fs x (bare program k.Assignment ∷ zs)
+type_option : (levels : ℕ) (x : Option Name) (fs zs : List Form) → IfThere (IsName levels) x → fs ≡ optional (written_name program) x ++ bare program k.Assignment ∷ zs → Reaches (if_seen program k.Identifier (name program levels)) fs x (bare program k.Assignment ∷ zs)
 unfolding if_seen
-type_option None fs zs h = reaches_choose (sees program k.Identifier) (optional_by (name program)) false (ap (sees program k.Identifier) h ∙ not_seen program k.Identifier (bare program k.Assignment ∷ zs) (λ e. cc)) (reaches_pure h)
-type_option (Some x) fs zs h =
-    reaches_choose (sees program k.Identifier) (optional_by (name program)) true (ap (sees program k.Identifier) h ∙ ap (is_kind k.Identifier) (name_front program x (bare program k.Assignment ∷ zs)) ∙ kind_self k.Identifier)
-    (reaches_bind _ (name_again program x fs (bare program k.Assignment ∷ zs) (λ e. cc) h) (λ us a. reaches_pure a))
+type_option levels None fs zs f h = reaches_choose (sees program k.Identifier) (optional_by (name program levels)) false (ap (sees program k.Identifier) h ∙ not_seen program k.Identifier (bare program k.Assignment ∷ zs) (λ e. cc)) (reaches_pure h)
+type_option levels (Some x) fs zs f h =
+    reaches_choose (sees program k.Identifier) (optional_by (name program levels)) true (ap (sees program k.Identifier) h ∙ ap (is_kind k.Identifier) (name_front program x (bare program k.Assignment ∷ zs)) ∙ kind_self k.Identifier)
+    (reaches_bind _ (name_again program levels x fs (bare program k.Assignment ∷ zs) f (omega arith) h) (λ us a. reaches_pure a))
 
 -- identifiers come first
 names_first : (names : List Identifier) (ws : List Form) → IsIdentifiers names → peek program (written_identifiers program names ++ ws) ≡ Some k.Identifier
@@ -221,24 +220,24 @@ names_first (name ∷ names) ws f = refl
 field_text : (n t zs : List Form) → (n ++ bare program k.Colon ∷ (t ++ bare program k.Semicolon ∷ [])) ++ zs ≡ n ++ bare program k.Colon ∷ (t ++ bare program k.Semicolon ∷ zs)
 field_text n t zs = simp append_assoc
 
-field_again : (x : FieldDecl) (fs zs : List Form) → IsFieldDecl x → fs ≡ written_field x ++ zs → Reaches field fs x zs
+field_again : (levels : ℕ) (x : FieldDecl) (fs zs : List Form) → IsFieldDecl levels x → fs ≡ written_field x ++ zs → Reaches (field levels) fs x zs
 unfolding field
-field_again x fs zs f h =
+field_again levels x fs zs f h =
     let after : List Form = bare program k.Semicolon ∷ zs in
-    reaches_bind _ (identifiers_again program x.names fs (bare program k.Colon ∷ (written_name program x.type_name ++ after)) f (λ e. cc) (h ∙ field_text (written_identifiers program x.names) (written_name program x.type_name) zs)) (λ us a.
+    reaches_bind _ (identifiers_again program x.names fs (bare program k.Colon ∷ (written_name program x.type_name ++ after)) f.0 (λ e. cc) (h ∙ field_text (written_identifiers program x.names) (written_name program x.type_name) zs)) (λ us a.
     reaches_bind _ (reaches_expect program k.Colon a) (λ vs b.
-    reaches_bind _ (name_again program x.type_name vs after (λ e. cc) b) (λ ws d.
+    reaches_bind _ (name_again program levels x.type_name vs after f.1 (omega arith) b) (λ ws d.
     reaches_bind _ (reaches_expect program k.Semicolon d) (λ t1 a1. reaches_pure a1))))
 
-field_seen : (x : FieldDecl) (ws : List Form) → IsFieldDecl x → sees program k.Identifier (written_field x ++ ws) ≡ true
-field_seen x ws f =
+field_seen : (levels : ℕ) (x : FieldDecl) (ws : List Form) → IsFieldDecl levels x → sees program k.Identifier (written_field x ++ ws) ≡ true
+field_seen levels x ws f =
     ap (sees program k.Identifier) (field_text (written_identifiers program x.names) (written_name program x.type_name) ws)
-    ∙ ap (is_kind k.Identifier) (names_first x.names (bare program k.Colon ∷ (written_name program x.type_name ++ bare program k.Semicolon ∷ ws)) f) ∙ kind_self k.Identifier
+    ∙ ap (is_kind k.Identifier) (names_first x.names (bare program k.Colon ∷ (written_name program x.type_name ++ bare program k.Semicolon ∷ ws)) f.0) ∙ kind_self k.Identifier
 
-fields_again : (xs : List FieldDecl) (fs zs : List Form) → OneOrMore IsFieldDecl xs → Lacks program k.Identifier zs → fs ≡ joined (map written_field xs) ++ zs → Reaches fields fs xs zs
+fields_again : (levels : ℕ) (xs : List FieldDecl) (fs zs : List Form) → OneOrMore (IsFieldDecl levels) xs → Lacks program k.Identifier zs → fs ≡ joined (map written_field xs) ++ zs → Reaches (fields levels) fs xs zs
 unfolding fields more_fields
-fields_again xs fs zs f over h =
-    reaches_some_items written_field IsFieldDecl (sees program k.Identifier) fields_shrinks field_seen field_again xs fs zs f (not_seen program k.Identifier zs over) h
+fields_again levels xs fs zs f over h =
+    reaches_some_items written_field (IsFieldDecl levels) (sees program k.Identifier) (fields_shrinks levels) (field_seen levels) (field_again levels) xs fs zs f (not_seen program k.Identifier zs over) h
 
 definition_again : (levels : ℕ) (x : TypeDef) (fs zs : List Form) → IsDefinition levels x → fs ≡ written_definition x ++ bare program k.Semicolon ∷ zs → Reaches (definition levels) fs x (bare program k.Semicolon ∷ zs)
 unfolding definition integer enumeration array record_definition
@@ -257,16 +256,16 @@ definition_again levels (defined.Array place index element) fs zs f h =
     reaches_choose (peek program) (definition_by levels) (Some k.Array) (peek_front program fs h)
     (reaches_bind _ (reaches_expect program k.Array flat) (λ us a.
     reaches_bind _ (reaches_expect_place program k.LeftParenthesis a) (λ vs b.
-    reaches_bind _ (name_again program index vs (bare program k.RightParenthesis ∷ (from_of ++ bare program k.Semicolon ∷ zs)) (λ e. cc) b) (λ ws d.
+    reaches_bind _ (name_again program levels index vs (bare program k.RightParenthesis ∷ (from_of ++ bare program k.Semicolon ∷ zs)) f.0 (omega arith) b) (λ ws d.
     reaches_bind _ (reaches_expect program k.RightParenthesis d) (λ t1 a1.
     reaches_bind _ (reaches_expect program k.Of a1) (λ t2 a2.
-    reaches_bind _ (name_again program element t2 (bare program k.Semicolon ∷ zs) (λ e. cc) a2) (λ t3 a3. reaches_pure a3)))))))
+    reaches_bind _ (name_again program levels element t2 (bare program k.Semicolon ∷ zs) f.1 (omega arith) a2) (λ t3 a3. reaches_pure a3)))))))
 definition_again levels (defined.Record fields end) fs zs f h =
     let after : List Form = placed program k.End end ∷ bare program k.Record ∷ bare program k.Semicolon ∷ zs in
     let flat = h ∙ ap (λ (us : List Form). bare program k.Record ∷ us) (append_assoc (joined (map written_field fields)) (placed program k.End end ∷ bare program k.Record ∷ []) (bare program k.Semicolon ∷ zs)) in
     reaches_choose (peek program) (definition_by levels) (Some k.Record) (peek_front program fs h)
     (reaches_bind _ (reaches_expect program k.Record flat) (λ us a.
-    reaches_bind _ (fields_again fields us after f (λ e. cc) a) (λ vs b.
+    reaches_bind _ (fields_again levels fields us after f (λ e. cc) a) (λ vs b.
     reaches_bind _ (reaches_expect_place program k.End b) (λ ws d.
     reaches_bind _ (reaches_expect program k.Record d) (λ t1 a1. reaches_pure a1)))))
 
@@ -295,8 +294,8 @@ declaration_again levels (decl.Variables names type_name value) fs zs f h =
     let after : List Form = optional written_initial value ++ bare program k.Semicolon ∷ zs in
     objects_again levels names (decl.Variables names type_name value) fs (written_name program type_name ++ after) zs f.0 (h ∙ variables_text (written_identifiers program names) (written_name program type_name) (optional written_initial value) zs) (λ us a.
     reaches_choose (peek program) (objects_by levels names) (Some k.Identifier) (peek_front program us a ∙ name_front program type_name after)
-    (reaches_bind _ (name_again program type_name us after (initial_apart value zs) a) (λ vs b.
-    reaches_bind _ (initial_option levels value vs zs f.1 b) (λ ws d.
+    (reaches_bind _ (name_again program levels type_name us after f.1 (initial_apart value zs) a) (λ vs b.
+    reaches_bind _ (initial_option levels value vs zs f.2 b) (λ ws d.
     reaches_bind _ (reaches_expect program k.Semicolon d) (λ t1 a1. reaches_pure a1)))))
 declaration_again levels (decl.Constants names type_name value) fs zs f h =
     let after : List Form = written_expr program value ++ bare program k.Semicolon ∷ zs in
@@ -304,9 +303,9 @@ declaration_again levels (decl.Constants names type_name value) fs zs f h =
     (h ∙ constants_text (written_identifiers program names) (optional (written_name program) type_name) (written_expr program value) zs) (λ us a.
     reaches_choose (peek program) (objects_by levels names) (Some k.Constant) (peek_front program us a)
     (reaches_bind _ (reaches_expect program k.Constant a) (λ vs b.
-    reaches_bind _ (type_option type_name vs after b) (λ ws d.
+    reaches_bind _ (type_option levels type_name vs after f.1 b) (λ ws d.
     reaches_bind _ (reaches_expect program k.Assignment d) (λ t1 a1.
-    reaches_bind _ (expression_again program levels value t1 (bare program k.Semicolon ∷ zs) f.1 (semicolon_free program zs) a1) (λ t2 a2.
+    reaches_bind _ (expression_again program levels value t1 (bare program k.Semicolon ∷ zs) f.2 (semicolon_free program zs) a1) (λ t2 a2.
     reaches_bind _ (reaches_expect program k.Semicolon a2) (λ t3 a3. reaches_pure a3)))))))
 declaration_again levels (decl.FullType name definition) fs zs f h =
     let flat = h ∙ ap (λ (us : List Form). bare program k.Type ∷ named program name ∷ bare program k.Is ∷ us) (append_assoc (written_definition definition) (bare program k.Semicolon ∷ []) zs) in
@@ -323,8 +322,8 @@ declaration_again levels (decl.Subtype subject parent range) fs zs f h =
     (reaches_bind _ (reaches_expect program k.Subtype flat) (λ us a.
     reaches_bind _ (reaches_identifier program a) (λ vs b.
     reaches_bind _ (reaches_expect program k.Is b) (λ ws d.
-    reaches_bind _ (name_again program parent ws after (constraint_apart range (bare program k.Semicolon ∷ zs) (semicolon_ends zs)) d) (λ t1 a1.
-    reaches_bind _ (constraint_option levels range t1 (bare program k.Semicolon ∷ zs) f (semicolon_ends zs) (λ e. cc) a1) (λ t2 a2.
+    reaches_bind _ (name_again program levels parent ws after f.0 (constraint_apart range (bare program k.Semicolon ∷ zs) (semicolon_ends zs)) d) (λ t1 a1.
+    reaches_bind _ (constraint_option levels range t1 (bare program k.Semicolon ∷ zs) f.1 (semicolon_ends zs) (λ e. cc) a1) (λ t2 a2.
     reaches_bind _ (reaches_expect program k.Semicolon a2) (λ t3 a3. reaches_pure a3)))))))
 
 declaration_seen : (levels : ℕ) (x : Decl) (ws : List Form) → IsDecl levels x → sees_declaration (written_decl x ++ ws) ≡ true
@@ -344,11 +343,11 @@ declarations_again levels xs fs zs f over h =
 
 -- what may be left out: it comes next, or what stands after it does
 
-formal_part_option : (x : Option FormalPart) (fs zs : List Form) → IfThere IsFormalPart x → Lacks program k.LeftParenthesis zs → fs ≡ optional written_formal_part x ++ zs → Reaches (if_seen program k.LeftParenthesis formal_part) fs x zs
-formal_part_option x fs zs f over h = reaches_if_seen written_formal_part IsFormalPart program k.LeftParenthesis (λ y ws g. kind_self k.LeftParenthesis) formal_part_again x fs zs f (not_seen program k.LeftParenthesis zs over) h
+formal_part_option : (levels : ℕ) (x : Option FormalPart) (fs zs : List Form) → IfThere (IsFormalPart levels) x → Lacks program k.LeftParenthesis zs → fs ≡ optional written_formal_part x ++ zs → Reaches (if_seen program k.LeftParenthesis (formal_part levels)) fs x zs
+formal_part_option levels x fs zs f over h = reaches_if_seen written_formal_part (IsFormalPart levels) program k.LeftParenthesis (λ y ws g. kind_self k.LeftParenthesis) (formal_part_again levels) x fs zs f (not_seen program k.LeftParenthesis zs over) h
 
-derives_option : (x : Option Derives) (fs zs : List Form) → IfThere IsDerives x → Lacks annotation k.Derives zs → fs ≡ optional written_derives x ++ zs → Reaches (if_seen annotation k.Derives derives) fs x zs
-derives_option x fs zs f over h = reaches_if_seen written_derives IsDerives annotation k.Derives (λ y ws g. kind_self k.Derives) derives_again x fs zs f (not_seen annotation k.Derives zs over) h
+derives_option : (levels : ℕ) (x : Option Derives) (fs zs : List Form) → IfThere (IsDerives levels) x → Lacks annotation k.Derives zs → fs ≡ optional written_derives x ++ zs → Reaches (if_seen annotation k.Derives (derives levels)) fs x zs
+derives_option levels x fs zs f over h = reaches_if_seen written_derives (IsDerives levels) annotation k.Derives (λ y ws g. kind_self k.Derives) (derives_again levels) x fs zs f (not_seen annotation k.Derives zs over) h
 
 predicate_option : (word : Kind) (levels : ℕ) (x : Option Predicate) (fs zs : List Form) → IfThere (IsPredicate levels) x → Lacks annotation word zs → fs ≡ optional (λ y. written_at word y.place y.condition) x ++ zs → Reaches (if_seen annotation word (predicate_after word levels)) fs x zs
 predicate_option word levels x fs zs f over h = reaches_if_seen (λ y. written_at word y.place y.condition) (IsPredicate levels) annotation word (λ y ws g. kind_self word) (predicate_after_again word levels) x fs zs f (not_seen annotation word zs over) h
@@ -417,8 +416,8 @@ module _ (levels : ℕ) (x : Subprogram) (zs : List Form) where
   heading_again fs f h =
       reaches_bind _ (reaches_expect_place program k.Procedure h) (λ t1 a1.
       reaches_bind _ (reaches_identifier program a1) (λ t2 a2.
-      reaches_bind _ (formal_part_option x.formal_part t2 from_derives f.formal_part (derives_unmarked x.derives x.pre x.post) a2) (λ t3 a3.
-      reaches_bind _ (derives_option x.derives t3 from_pre f.derives (pre_kind x.pre x.post k.Derives (λ e. cc) (λ e. cc)) a3) (λ t4 a4.
+      reaches_bind _ (formal_part_option levels x.formal_part t2 from_derives f.formal_part (derives_unmarked x.derives x.pre x.post) a2) (λ t3 a3.
+      reaches_bind _ (derives_option levels x.derives t3 from_pre f.derives (pre_kind x.pre x.post k.Derives (λ e. cc) (λ e. cc)) a3) (λ t4 a4.
       reaches_bind _ (predicate_option k.Pre levels x.pre t4 from_post f.pre (post_kind x.post k.Pre (λ e. cc)) a4) (λ t5 a5.
       reaches_bind _ (predicate_option k.Post levels x.post t5 from_is f.post (λ e. cc) a5) (λ t6 a6. reaches_pure a6))))))
 

@@ -41,73 +41,73 @@ unfoldable pub identifiers : Bool → Reader (List Identifier)
 identifiers marked = identifier marked >>= λ x. more_identifiers marked (x ∷ [])
 
 -- {"," name}
-unfoldable pub more_names : Bool → List Name → Reader (List Name)
-more_names marked found = more_items (sees marked k.Comma) (expect marked k.Comma >> name marked) found
+unfoldable pub more_names : Bool → ℕ → List Name → Reader (List Name)
+more_names marked levels found = more_items (sees marked k.Comma) (expect marked k.Comma >> name marked levels) found
 
 -- name {"," name}
-unfoldable pub names : Bool → Reader (List Name)
-names marked = name marked >>= λ x. more_names marked (x ∷ [])
+unfoldable pub names : Bool → ℕ → Reader (List Name)
+names marked levels = name marked levels >>= λ x. more_names marked levels (x ∷ [])
 
 -- ---- annotations
 
 -- "*" {"," name}
-unfoldable pub starred : Reader Imports
-starred = do
+unfoldable pub starred : ℕ → Reader Imports
+starred levels = do
   place ← expect_place annotation k.Asterisk
-  names ← more_names annotation []
+  names ← more_names annotation levels []
   pure (record { itself = Some place; names = names })
 
-unfoldable pub unstarred : Reader Imports
-unstarred = do
-  names ← names annotation
+unfoldable pub unstarred : ℕ → Reader Imports
+unstarred levels = do
+  names ← names annotation levels
   pure (record { itself = None; names = names })
 
-abbrev pub imports_by : Option Kind → Reader Imports
-imports_by (Some k.Asterisk) = starred
-imports_by (Some k.Identifier) = unstarred
-imports_by _ = pure (record { itself = None; names = [] })
+abbrev pub imports_by : ℕ → Option Kind → Reader Imports
+imports_by levels (Some k.Asterisk) = starred levels
+imports_by levels (Some k.Identifier) = unstarred levels
+imports_by levels _ = pure (record { itself = None; names = [] })
 
 -- ["*" {"," name} | names]
-unfoldable pub imports : Reader Imports
-imports = λ fs. imports_by (peek annotation fs) fs
+unfoldable pub imports : ℕ → Reader Imports
+imports levels = λ fs. imports_by levels (peek annotation fs) fs
 
 -- names "from" imports
-unfoldable pub named_item : Reader DerivesItem
-named_item = do
-  exports ← names annotation
+unfoldable pub named_item : ℕ → Reader DerivesItem
+named_item levels = do
+  exports ← names annotation levels
   expect annotation k.From
-  imports ← imports
+  imports ← imports levels
   pure (record { exports = exported.Names exports; imports = imports })
 
 -- "null" "from" names
-unfoldable pub null_item : Reader DerivesItem
-null_item = do
+unfoldable pub null_item : ℕ → Reader DerivesItem
+null_item levels = do
   place ← expect_place annotation k.Null
   expect annotation k.From
-  imports ← unstarred
+  imports ← unstarred levels
   pure (record { exports = exported.Null place; imports = imports })
 
-abbrev pub item_by : Option Kind → Reader DerivesItem
-item_by (Some k.Identifier) = named_item
-item_by (Some k.Null) = null_item
-item_by _ = refuse
+abbrev pub item_by : ℕ → Option Kind → Reader DerivesItem
+item_by levels (Some k.Identifier) = named_item levels
+item_by levels (Some k.Null) = null_item levels
+item_by levels _ = refuse
 
 -- names "from" imports | "null" "from" names
-unfoldable pub item : Reader DerivesItem
-item = λ fs. item_by (peek annotation fs) fs
+unfoldable pub item : ℕ → Reader DerivesItem
+item levels = λ fs. item_by levels (peek annotation fs) fs
 
-unfoldable pub more_derives : List DerivesItem → Reader (List DerivesItem)
-more_derives found = more_items (sees annotation k.Ampersand) (expect annotation k.Ampersand >> item) found
+unfoldable pub more_derives : ℕ → List DerivesItem → Reader (List DerivesItem)
+more_derives levels found = more_items (sees annotation k.Ampersand) (expect annotation k.Ampersand >> item levels) found
 
 -- item {"&" item}
-unfoldable pub items : Reader (List DerivesItem)
-items = item >>= λ x. more_derives (x ∷ [])
+unfoldable pub items : ℕ → Reader (List DerivesItem)
+items levels = item levels >>= λ x. more_derives levels (x ∷ [])
 
 -- "derives" item {"&" item} ";"
-unfoldable pub derives : Reader Derives
-derives = do
+unfoldable pub derives : ℕ → Reader Derives
+derives levels = do
   place ← expect_place annotation k.Derives
-  items ← items
+  items ← items levels
   expect annotation k.Semicolon
   pure (record { place = place; items = items })
 
@@ -131,26 +131,26 @@ unfoldable pub mode : Reader WrittenMode
 mode = λ fs. mode_by (peek program fs) fs
 
 -- identifiers ":" mode name
-unfoldable pub param : Reader Param
-param = do
+unfoldable pub param : ℕ → Reader Param
+param levels = do
   names ← identifiers program
   expect program k.Colon
   mode ← mode
-  type_name ← name program
+  type_name ← name program levels
   pure (record { names = names; mode = mode; type_name = type_name })
 
-unfoldable pub more_params : List Param → Reader (List Param)
-more_params found = more_items (sees program k.Semicolon) (expect program k.Semicolon >> param) found
+unfoldable pub more_params : ℕ → List Param → Reader (List Param)
+more_params levels found = more_items (sees program k.Semicolon) (expect program k.Semicolon >> param levels) found
 
 -- param {";" param}
-unfoldable pub params : Reader (List Param)
-params = param >>= λ x. more_params (x ∷ [])
+unfoldable pub params : ℕ → Reader (List Param)
+params levels = param levels >>= λ x. more_params levels (x ∷ [])
 
 -- "(" params ")"
-unfoldable pub formal_part : Reader FormalPart
-formal_part = do
+unfoldable pub formal_part : ℕ → Reader FormalPart
+formal_part levels = do
   place ← expect_place program k.LeftParenthesis
-  params ← params
+  params ← params levels
   expect program k.RightParenthesis
   pure (record { place = place; params = params })
 
@@ -169,38 +169,38 @@ enumeration = do
   pure (defined.Enumeration place literals)
 
 -- "array" "(" name ")" "of" name
-unfoldable pub array : Reader TypeDef
-array = do
+unfoldable pub array : ℕ → Reader TypeDef
+array levels = do
   expect program k.Array
   place ← expect_place program k.LeftParenthesis
-  index ← name program
+  index ← name program levels
   expect program k.RightParenthesis
   expect program k.Of
-  element ← name program
+  element ← name program levels
   pure (defined.Array place index element)
 
 -- identifiers ":" name ";"
-unfoldable pub field : Reader FieldDecl
-field = do
+unfoldable pub field : ℕ → Reader FieldDecl
+field levels = do
   names ← identifiers program
   expect program k.Colon
-  type_name ← name program
+  type_name ← name program levels
   expect program k.Semicolon
   pure (record { names = names; type_name = type_name })
 
 -- {field}
-unfoldable pub more_fields : List FieldDecl → Reader (List FieldDecl)
-more_fields found = more_items (sees program k.Identifier) field found
+unfoldable pub more_fields : ℕ → List FieldDecl → Reader (List FieldDecl)
+more_fields levels found = more_items (sees program k.Identifier) (field levels) found
 
 -- field {field}
-unfoldable pub fields : Reader (List FieldDecl)
-fields = field >>= λ x. more_fields (x ∷ [])
+unfoldable pub fields : ℕ → Reader (List FieldDecl)
+fields levels = field levels >>= λ x. more_fields levels (x ∷ [])
 
 -- "record" fields "end" "record"
-unfoldable pub record_definition : Reader TypeDef
-record_definition = do
+unfoldable pub record_definition : ℕ → Reader TypeDef
+record_definition levels = do
   expect program k.Record
-  fields ← fields
+  fields ← fields levels
   place ← expect_place program k.End
   expect program k.Record
   pure (defined.Record fields place)
@@ -208,8 +208,8 @@ record_definition = do
 abbrev pub definition_by : ℕ → Option Kind → Reader TypeDef
 definition_by levels (Some k.Range) = integer levels
 definition_by levels (Some k.LeftParenthesis) = enumeration
-definition_by levels (Some k.Array) = array
-definition_by levels (Some k.Record) = record_definition
+definition_by levels (Some k.Array) = array levels
+definition_by levels (Some k.Record) = record_definition levels
 definition_by levels _ = refuse
 
 -- "range" range | "(" identifiers ")" | array | record
@@ -232,7 +232,7 @@ subtype levels = do
   expect program k.Subtype
   subject ← identifier program
   expect program k.Is
-  parent ← name program
+  parent ← name program levels
   range ← if_seen program k.Range (constraint levels)
   expect program k.Semicolon
   pure (decl.Subtype subject parent range)
@@ -244,7 +244,7 @@ initial levels = expect program k.Assignment >> expression program levels
 -- name [":=" expression] ";"
 unfoldable pub variables : ℕ → List Identifier → Reader Decl
 variables levels names = do
-  type_name ← name program
+  type_name ← name program levels
   value ← if_seen program k.Assignment (initial levels)
   expect program k.Semicolon
   pure (decl.Variables names type_name value)
@@ -253,7 +253,7 @@ variables levels names = do
 unfoldable pub constants : ℕ → List Identifier → Reader Decl
 constants levels names = do
   expect program k.Constant
-  type_name ← if_seen program k.Identifier (name program)
+  type_name ← if_seen program k.Identifier (name program levels)
   expect program k.Assignment
   value ← expression program levels
   expect program k.Semicolon
@@ -310,8 +310,8 @@ unfoldable pub heading : ℕ → Reader HeadingParts
 heading levels = do
   place ← expect_place program k.Procedure
   name ← identifier program
-  formal_part ← if_seen program k.LeftParenthesis formal_part
-  derives ← if_seen annotation k.Derives derives
+  formal_part ← if_seen program k.LeftParenthesis (formal_part levels)
+  derives ← if_seen annotation k.Derives (derives levels)
   pre ← if_seen annotation k.Pre (predicate_after k.Pre levels)
   post ← if_seen annotation k.Post (predicate_after k.Post levels)
   pure (record { place = place; name = name; formal_part = formal_part; derives = derives; pre = pre; post = post })

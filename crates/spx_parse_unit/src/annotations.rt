@@ -51,36 +51,42 @@ pub fn identifiers(
 fn more_names(
     alloc: Global,
     cursor: &mut Cursor<'_>,
+    levels: u32,
     marked: bool,
     found: Items<Name>,
 ) -> Result<Items<Name>, Stop>
-    ensures { Reads (read.more_names marked found cursor.old) result cursor.new }
+    ensures { Reads (read.more_names marked levels found cursor.old) result cursor.new }
 {
     let mut names = found;
     'more: while cursor.sees(marked, Kind::Comma) {
         cursor.expect(marked, Kind::Comma)?;
-        names.push(name(alloc, cursor, marked)?)?;
+        names.push(name(alloc, cursor, levels, marked)?)?;
     }
     Ok(names)
 }
 
 // names = name {"," name}
 #[tactic(auto, unfolding(crate::specs::Units::names))]
-fn names(alloc: Global, cursor: &mut Cursor<'_>, marked: bool) -> Result<Items<Name>, Stop>
-    ensures { Reads (read.names marked cursor.old) result cursor.new }
+fn names(
+    alloc: Global,
+    cursor: &mut Cursor<'_>,
+    levels: u32,
+    marked: bool,
+) -> Result<Items<Name>, Stop>
+    ensures { Reads (read.names marked levels cursor.old) result cursor.new }
 {
     let mut names = Items::new(alloc);
-    names.push(name(alloc, cursor, marked)?)?;
-    more_names(alloc, cursor, marked, names)
+    names.push(name(alloc, cursor, levels, marked)?)?;
+    more_names(alloc, cursor, levels, marked, names)
 }
 
 // starred = "*" {"," name}
 #[tactic(auto, unfolding(crate::specs::Units::starred))]
-fn starred(alloc: Global, cursor: &mut Cursor<'_>) -> Result<Imports, Stop>
-    ensures { Reads (read.starred cursor.old) result cursor.new }
+fn starred(alloc: Global, cursor: &mut Cursor<'_>, levels: u32) -> Result<Imports, Stop>
+    ensures { Reads (read.starred levels cursor.old) result cursor.new }
 {
     let place = cursor.expect_place(ANNOTATION, Kind::Asterisk)?;
-    let names = more_names(alloc, cursor, ANNOTATION, Items::new(alloc))?;
+    let names = more_names(alloc, cursor, levels, ANNOTATION, Items::new(alloc))?;
     Ok(Imports {
         itself: Some(place),
         names,
@@ -88,10 +94,10 @@ fn starred(alloc: Global, cursor: &mut Cursor<'_>) -> Result<Imports, Stop>
 }
 
 #[tactic(auto, unfolding(crate::specs::Units::unstarred))]
-fn unstarred(alloc: Global, cursor: &mut Cursor<'_>) -> Result<Imports, Stop>
-    ensures { Reads (read.unstarred cursor.old) result cursor.new }
+fn unstarred(alloc: Global, cursor: &mut Cursor<'_>, levels: u32) -> Result<Imports, Stop>
+    ensures { Reads (read.unstarred levels cursor.old) result cursor.new }
 {
-    let names = names(alloc, cursor, ANNOTATION)?;
+    let names = names(alloc, cursor, levels, ANNOTATION)?;
     Ok(Imports {
         itself: None,
         names,
@@ -100,12 +106,12 @@ fn unstarred(alloc: Global, cursor: &mut Cursor<'_>) -> Result<Imports, Stop>
 
 // imports = [starred | names]
 #[tactic(auto, unfolding(crate::specs::Units::imports))]
-fn imports(alloc: Global, cursor: &mut Cursor<'_>) -> Result<Imports, Stop>
-    ensures { Reads (read.imports cursor.old) result cursor.new }
+fn imports(alloc: Global, cursor: &mut Cursor<'_>, levels: u32) -> Result<Imports, Stop>
+    ensures { Reads (read.imports levels cursor.old) result cursor.new }
 {
     match cursor.peek(ANNOTATION) {
-        Some(Kind::Asterisk) => starred(alloc, cursor),
-        Some(Kind::Identifier) => unstarred(alloc, cursor),
+        Some(Kind::Asterisk) => starred(alloc, cursor, levels),
+        Some(Kind::Identifier) => unstarred(alloc, cursor, levels),
         _ => Ok(Imports {
             itself: None,
             names: Items::new(alloc),
@@ -115,72 +121,76 @@ fn imports(alloc: Global, cursor: &mut Cursor<'_>) -> Result<Imports, Stop>
 
 // named_item = names "from" imports
 #[tactic(auto, unfolding(crate::specs::Units::named_item))]
-fn named_item(alloc: Global, cursor: &mut Cursor<'_>) -> Result<DerivesItem, Stop>
-    ensures { Reads (read.named_item cursor.old) result cursor.new }
+fn named_item(alloc: Global, cursor: &mut Cursor<'_>, levels: u32) -> Result<DerivesItem, Stop>
+    ensures { Reads (read.named_item levels cursor.old) result cursor.new }
 {
-    let names = names(alloc, cursor, ANNOTATION)?;
+    let names = names(alloc, cursor, levels, ANNOTATION)?;
     cursor.expect(ANNOTATION, Kind::From)?;
-    let imports = imports(alloc, cursor)?;
+    let imports = imports(alloc, cursor, levels)?;
     let exports = Exports::Names(names);
     Ok(DerivesItem { exports, imports })
 }
 
 // null_item = "null" "from" names
 #[tactic(auto, unfolding(crate::specs::Units::null_item))]
-fn null_item(alloc: Global, cursor: &mut Cursor<'_>) -> Result<DerivesItem, Stop>
-    ensures { Reads (read.null_item cursor.old) result cursor.new }
+fn null_item(alloc: Global, cursor: &mut Cursor<'_>, levels: u32) -> Result<DerivesItem, Stop>
+    ensures { Reads (read.null_item levels cursor.old) result cursor.new }
 {
     let place = cursor.expect_place(ANNOTATION, Kind::Null)?;
     cursor.expect(ANNOTATION, Kind::From)?;
-    let imports = unstarred(alloc, cursor)?;
+    let imports = unstarred(alloc, cursor, levels)?;
     let exports = Exports::Null(place);
     Ok(DerivesItem { exports, imports })
 }
 
 // item = named_item | null_item
 #[tactic(auto, unfolding(crate::specs::Units::item))]
-fn item(alloc: Global, cursor: &mut Cursor<'_>) -> Result<DerivesItem, Stop>
-    ensures { Reads (read.item cursor.old) result cursor.new }
+fn item(alloc: Global, cursor: &mut Cursor<'_>, levels: u32) -> Result<DerivesItem, Stop>
+    ensures { Reads (read.item levels cursor.old) result cursor.new }
 {
     match cursor.peek(ANNOTATION) {
-        Some(Kind::Identifier) => named_item(alloc, cursor),
-        Some(Kind::Null) => null_item(alloc, cursor),
+        Some(Kind::Identifier) => named_item(alloc, cursor, levels),
+        Some(Kind::Null) => null_item(alloc, cursor, levels),
         _ => Err(cursor.expected()),
     }
 }
 
 // items = item {"&" item}
 #[tactic(auto, using(crate::proofs::Turns::more_derives_is), unfolding(crate::specs::Units::items))]
-fn items(alloc: Global, cursor: &mut Cursor<'_>) -> Result<Items<DerivesItem>, Stop>
-    ensures { Reads (read.items cursor.old) result cursor.new }
+fn items(alloc: Global, cursor: &mut Cursor<'_>, levels: u32) -> Result<Items<DerivesItem>, Stop>
+    ensures { Reads (read.items levels cursor.old) result cursor.new }
 {
     let mut items = Items::new(alloc);
-    items.push(item(alloc, cursor)?)?;
+    items.push(item(alloc, cursor, levels)?)?;
     'more: while cursor.sees(ANNOTATION, Kind::Ampersand) {
         cursor.expect(ANNOTATION, Kind::Ampersand)?;
-        items.push(item(alloc, cursor)?)?;
+        items.push(item(alloc, cursor, levels)?)?;
     }
     Ok(items)
 }
 
 // derives = "derives" items ";"
 #[tactic(auto, unfolding(crate::specs::Units::derives))]
-fn derives(alloc: Global, cursor: &mut Cursor<'_>) -> Result<Derives, Stop>
-    ensures { Reads (read.derives cursor.old) result cursor.new }
+fn derives(alloc: Global, cursor: &mut Cursor<'_>, levels: u32) -> Result<Derives, Stop>
+    ensures { Reads (read.derives levels cursor.old) result cursor.new }
 {
     let place = cursor.expect_place(ANNOTATION, Kind::Derives)?;
-    let items = items(alloc, cursor)?;
+    let items = items(alloc, cursor, levels)?;
     cursor.expect(ANNOTATION, Kind::Semicolon)?;
     Ok(Derives { place, items })
 }
 
 /// Reads a dependency relation, if there is one.
 #[tactic(auto, unfolding(spx_cursor::specs::Reading::if_seen))]
-pub fn optional_derives(alloc: Global, cursor: &mut Cursor<'_>) -> Result<Option<Derives>, Stop>
-    ensures { Reads (reading.if_seen annotation k.Derives read.derives cursor.old) result cursor.new }
+pub fn optional_derives(
+    alloc: Global,
+    cursor: &mut Cursor<'_>,
+    levels: u32,
+) -> Result<Option<Derives>, Stop>
+    ensures { Reads (reading.if_seen annotation k.Derives (read.derives levels) cursor.old) result cursor.new }
 {
     if cursor.sees(ANNOTATION, Kind::Derives) {
-        return Ok(Some(derives(alloc, cursor)?));
+        return Ok(Some(derives(alloc, cursor, levels)?));
     }
     Ok(None)
 }

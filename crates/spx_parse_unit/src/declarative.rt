@@ -23,10 +23,10 @@ fn subject(alloc: Global, cursor: &mut Cursor<'_>) -> Result<Boxed<Identifier>, 
 }
 
 /// Reads the name of a type.
-fn type_name(alloc: Global, cursor: &mut Cursor<'_>) -> Result<Boxed<Name>, Stop>
-    ensures { Reads (expressions.name program cursor.old) result cursor.new }
+fn type_name(alloc: Global, cursor: &mut Cursor<'_>, levels: u32) -> Result<Boxed<Name>, Stop>
+    ensures { Reads (expressions.name program levels cursor.old) result cursor.new }
 {
-    Ok(Boxed::new(alloc, name(alloc, cursor, PROGRAM)?)?)
+    Ok(Boxed::new(alloc, name(alloc, cursor, levels, PROGRAM)?)?)
 }
 
 /// Reads the value of an object.
@@ -53,11 +53,15 @@ fn optional_constraint(
 
 // [name]
 #[tactic(auto, unfolding(spx_cursor::specs::Reading::if_seen))]
-fn optional_name(alloc: Global, cursor: &mut Cursor<'_>) -> Result<Option<Boxed<Name>>, Stop>
-    ensures { Reads (reading.if_seen program k.Identifier (expressions.name program) cursor.old) result cursor.new }
+fn optional_name(
+    alloc: Global,
+    cursor: &mut Cursor<'_>,
+    levels: u32,
+) -> Result<Option<Boxed<Name>>, Stop>
+    ensures { Reads (reading.if_seen program k.Identifier (expressions.name program levels) cursor.old) result cursor.new }
 {
     if cursor.sees(PROGRAM, Kind::Identifier) {
-        return Ok(Some(type_name(alloc, cursor)?));
+        return Ok(Some(type_name(alloc, cursor, levels)?));
     }
     Ok(None)
 }
@@ -84,50 +88,54 @@ fn enumeration(alloc: Global, cursor: &mut Cursor<'_>) -> Result<Boxed<TypeDef>,
 
 // array = "array" "(" name ")" "of" name
 #[tactic(auto, unfolding(crate::specs::Units::array))]
-fn array(alloc: Global, cursor: &mut Cursor<'_>) -> Result<Boxed<TypeDef>, Stop>
-    ensures { Reads (read.array cursor.old) result cursor.new }
+fn array(alloc: Global, cursor: &mut Cursor<'_>, levels: u32) -> Result<Boxed<TypeDef>, Stop>
+    ensures { Reads (read.array levels cursor.old) result cursor.new }
 {
     cursor.expect(PROGRAM, Kind::Array)?;
     let place = cursor.expect_place(PROGRAM, Kind::LeftParenthesis)?;
-    let index = name(alloc, cursor, PROGRAM)?;
+    let index = name(alloc, cursor, levels, PROGRAM)?;
     cursor.expect(PROGRAM, Kind::RightParenthesis)?;
     cursor.expect(PROGRAM, Kind::Of)?;
-    let element = name(alloc, cursor, PROGRAM)?;
+    let element = name(alloc, cursor, levels, PROGRAM)?;
     Ok(Boxed::new(alloc, TypeDef::Array(place, index, element))?)
 }
 
 // field = identifiers ":" name ";"
 #[tactic(auto, unfolding(crate::specs::Units::field))]
-fn field(alloc: Global, cursor: &mut Cursor<'_>) -> Result<FieldDecl, Stop>
-    ensures { Reads (read.field cursor.old) result cursor.new }
+fn field(alloc: Global, cursor: &mut Cursor<'_>, levels: u32) -> Result<FieldDecl, Stop>
+    ensures { Reads (read.field levels cursor.old) result cursor.new }
 {
     let names = identifiers(alloc, cursor, PROGRAM)?;
     cursor.expect(PROGRAM, Kind::Colon)?;
-    let type_name = name(alloc, cursor, PROGRAM)?;
+    let type_name = name(alloc, cursor, levels, PROGRAM)?;
     cursor.expect(PROGRAM, Kind::Semicolon)?;
     Ok(FieldDecl { names, type_name })
 }
 
 // fields = field {field}
 #[tactic(auto, using(crate::proofs::Turns::more_fields_is), unfolding(crate::specs::Units::fields))]
-fn fields(alloc: Global, cursor: &mut Cursor<'_>) -> Result<Items<FieldDecl>, Stop>
-    ensures { Reads (read.fields cursor.old) result cursor.new }
+fn fields(alloc: Global, cursor: &mut Cursor<'_>, levels: u32) -> Result<Items<FieldDecl>, Stop>
+    ensures { Reads (read.fields levels cursor.old) result cursor.new }
 {
     let mut fields = Items::new(alloc);
-    fields.push(field(alloc, cursor)?)?;
+    fields.push(field(alloc, cursor, levels)?)?;
     'more: while cursor.sees(PROGRAM, Kind::Identifier) {
-        fields.push(field(alloc, cursor)?)?;
+        fields.push(field(alloc, cursor, levels)?)?;
     }
     Ok(fields)
 }
 
 // record_definition = "record" fields "end" "record"
 #[tactic(auto, unfolding(crate::specs::Units::record_definition))]
-fn record_definition(alloc: Global, cursor: &mut Cursor<'_>) -> Result<Boxed<TypeDef>, Stop>
-    ensures { Reads (read.record_definition cursor.old) result cursor.new }
+fn record_definition(
+    alloc: Global,
+    cursor: &mut Cursor<'_>,
+    levels: u32,
+) -> Result<Boxed<TypeDef>, Stop>
+    ensures { Reads (read.record_definition levels cursor.old) result cursor.new }
 {
     cursor.expect(PROGRAM, Kind::Record)?;
-    let fields = fields(alloc, cursor)?;
+    let fields = fields(alloc, cursor, levels)?;
     let end = cursor.expect_place(PROGRAM, Kind::End)?;
     cursor.expect(PROGRAM, Kind::Record)?;
     Ok(Boxed::new(alloc, TypeDef::Record(fields, end))?)
@@ -141,8 +149,8 @@ fn definition(alloc: Global, cursor: &mut Cursor<'_>, levels: u32) -> Result<Box
     match cursor.peek(PROGRAM) {
         Some(Kind::Range) => integer(alloc, cursor, levels),
         Some(Kind::LeftParenthesis) => enumeration(alloc, cursor),
-        Some(Kind::Array) => array(alloc, cursor),
-        Some(Kind::Record) => record_definition(alloc, cursor),
+        Some(Kind::Array) => array(alloc, cursor, levels),
+        Some(Kind::Record) => record_definition(alloc, cursor, levels),
         _ => Err(cursor.expected()),
     }
 }
@@ -168,7 +176,7 @@ fn subtype(alloc: Global, cursor: &mut Cursor<'_>, levels: u32) -> Result<Decl, 
     cursor.expect(PROGRAM, Kind::Subtype)?;
     let name = subject(alloc, cursor)?;
     cursor.expect(PROGRAM, Kind::Is)?;
-    let parent = type_name(alloc, cursor)?;
+    let parent = type_name(alloc, cursor, levels)?;
     let range = optional_constraint(alloc, cursor, levels)?;
     cursor.expect(PROGRAM, Kind::Semicolon)?;
     Ok(Decl::Subtype(name, parent, range))
@@ -208,7 +216,7 @@ fn variables(
 ) -> Result<Decl, Stop>
     ensures { Reads (read.variables levels names cursor.old) result cursor.new }
 {
-    let type_name = type_name(alloc, cursor)?;
+    let type_name = type_name(alloc, cursor, levels)?;
     let value = optional_initial(alloc, cursor, levels)?;
     cursor.expect(PROGRAM, Kind::Semicolon)?;
     Ok(Decl::Variables(names, type_name, value))
@@ -225,7 +233,7 @@ fn constants(
     ensures { Reads (read.constants levels names cursor.old) result cursor.new }
 {
     cursor.expect(PROGRAM, Kind::Constant)?;
-    let type_name = optional_name(alloc, cursor)?;
+    let type_name = optional_name(alloc, cursor, levels)?;
     cursor.expect(PROGRAM, Kind::Assignment)?;
     let value = value(alloc, cursor, levels)?;
     cursor.expect(PROGRAM, Kind::Semicolon)?;

@@ -72,13 +72,13 @@ fn mode(cursor: &mut Cursor<'_>) -> Result<WrittenMode, Stop>
 
 // param = identifiers ":" mode name
 #[tactic(auto, unfolding(crate::specs::Units::param))]
-fn param(alloc: Global, cursor: &mut Cursor<'_>) -> Result<Param, Stop>
-    ensures { Reads (read.param cursor.old) result cursor.new }
+fn param(alloc: Global, cursor: &mut Cursor<'_>, levels: u32) -> Result<Param, Stop>
+    ensures { Reads (read.param levels cursor.old) result cursor.new }
 {
     let names = identifiers(alloc, cursor, PROGRAM)?;
     cursor.expect(PROGRAM, Kind::Colon)?;
     let mode = mode(cursor)?;
-    let type_name = name(alloc, cursor, PROGRAM)?;
+    let type_name = name(alloc, cursor, levels, PROGRAM)?;
     Ok(Param {
         names,
         mode,
@@ -88,36 +88,40 @@ fn param(alloc: Global, cursor: &mut Cursor<'_>) -> Result<Param, Stop>
 
 // params = param {";" param}
 #[tactic(auto, using(crate::proofs::Turns::more_params_is), unfolding(crate::specs::Units::params))]
-fn params(alloc: Global, cursor: &mut Cursor<'_>) -> Result<Items<Param>, Stop>
-    ensures { Reads (read.params cursor.old) result cursor.new }
+fn params(alloc: Global, cursor: &mut Cursor<'_>, levels: u32) -> Result<Items<Param>, Stop>
+    ensures { Reads (read.params levels cursor.old) result cursor.new }
 {
     let mut params = Items::new(alloc);
-    params.push(param(alloc, cursor)?)?;
+    params.push(param(alloc, cursor, levels)?)?;
     'more: while cursor.sees(PROGRAM, Kind::Semicolon) {
         cursor.expect(PROGRAM, Kind::Semicolon)?;
-        params.push(param(alloc, cursor)?)?;
+        params.push(param(alloc, cursor, levels)?)?;
     }
     Ok(params)
 }
 
 // formal_part = "(" params ")"
 #[tactic(auto, unfolding(crate::specs::Units::formal_part))]
-fn formal_part(alloc: Global, cursor: &mut Cursor<'_>) -> Result<FormalPart, Stop>
-    ensures { Reads (read.formal_part cursor.old) result cursor.new }
+fn formal_part(alloc: Global, cursor: &mut Cursor<'_>, levels: u32) -> Result<FormalPart, Stop>
+    ensures { Reads (read.formal_part levels cursor.old) result cursor.new }
 {
     let place = cursor.expect_place(PROGRAM, Kind::LeftParenthesis)?;
-    let params = params(alloc, cursor)?;
+    let params = params(alloc, cursor, levels)?;
     cursor.expect(PROGRAM, Kind::RightParenthesis)?;
     Ok(FormalPart { place, params })
 }
 
 // [formal_part]
 #[tactic(auto, unfolding(spx_cursor::specs::Reading::if_seen))]
-fn optional_formal_part(alloc: Global, cursor: &mut Cursor<'_>) -> Result<Option<FormalPart>, Stop>
-    ensures { Reads (reading.if_seen program k.LeftParenthesis read.formal_part cursor.old) result cursor.new }
+fn optional_formal_part(
+    alloc: Global,
+    cursor: &mut Cursor<'_>,
+    levels: u32,
+) -> Result<Option<FormalPart>, Stop>
+    ensures { Reads (reading.if_seen program k.LeftParenthesis (read.formal_part levels) cursor.old) result cursor.new }
 {
     if cursor.sees(PROGRAM, Kind::LeftParenthesis) {
-        return Ok(Some(formal_part(alloc, cursor)?));
+        return Ok(Some(formal_part(alloc, cursor, levels)?));
     }
     Ok(None)
 }
@@ -140,8 +144,8 @@ fn heading(alloc: Global, cursor: &mut Cursor<'_>, levels: u32) -> Result<Boxed<
 {
     let place = cursor.expect_place(PROGRAM, Kind::Procedure)?;
     let name = cursor.identifier(alloc, PROGRAM)?;
-    let formal_part = optional_formal_part(alloc, cursor)?;
-    let derives = optional_derives(alloc, cursor)?;
+    let formal_part = optional_formal_part(alloc, cursor, levels)?;
+    let derives = optional_derives(alloc, cursor, levels)?;
     let pre = optional_predicate(alloc, cursor, levels, Kind::Pre)?;
     let post = optional_predicate(alloc, cursor, levels, Kind::Post)?;
     let parts = HeadingParts {

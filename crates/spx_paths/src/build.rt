@@ -33,7 +33,7 @@ use spx_steps::StepId;
 use spx_term::CondKind;
 use spx_text::Place;
 use spx_tree::AssertionKind;
-use sqlite_items::{Boxed, Items};
+use sqlite_items::Items;
 use std::alloc::{AllocError, Global};
 
 /// A subprogram whose body is made into steps, its program and its interface.
@@ -58,11 +58,11 @@ pub struct Next<'a> {
 }
 
 /// What is done where no arm is taken.
-fn done_otherwise(otherwise: &Option<Boxed<Items<CoreStmt>>>) -> &[CoreStmt]
+fn done_otherwise(otherwise: &Option<Items<CoreStmt>>) -> &[CoreStmt]
     ensures { result.now ≡ done_otherwise otherwise.now }
 {
     match otherwise {
-        Some(stmts) => stmts.get().as_slice(),
+        Some(stmts) => stmts.as_slice(),
         None => &[],
     }
 }
@@ -356,7 +356,7 @@ impl Draft {
     {
         let mut at = otherwise;
         for arm in arms.iter().rev() {
-            let holds = self.stmts(alloc, body, cuts, arm.body.get().as_slice(), next)?;
+            let holds = self.stmts(alloc, body, cuts, arm.body.as_slice(), next)?;
             at = self.decided(alloc, body.program, arm.condition.get(), false, holds, at)?;
         }
         Ok(at)
@@ -684,17 +684,17 @@ impl Draft {
             CoreStmt::If(arms, otherwise, _) => {
                 let otherwise = done_otherwise(otherwise);
                 let last = self.stmts(alloc, body, cuts, otherwise, next)?;
-                let id = self.arms(alloc, body, cuts, arms.get().as_slice(), last, next)?;
+                let id = self.arms(alloc, body, cuts, arms.as_slice(), last, next)?;
                 Ok(id)
             }
             CoreStmt::Case(_, selector, alternatives, _) => {
-                let cases = alternatives.get().as_slice();
+                let cases = alternatives.as_slice();
                 let id = self.case(alloc, body, cuts, cases, selector.get(), next)?;
                 Ok(id)
             }
             CoreStmt::Loop(scheme, _, repeated, _) => {
-                let repeated = repeated.get().as_slice();
-                let id = self.repeated(alloc, body, cuts, scheme.get(), repeated, next)?;
+                let repeated = repeated.as_slice();
+                let id = self.repeated(alloc, body, cuts, scheme, repeated, next)?;
                 Ok(id)
             }
             CoreStmt::Exit(_, condition) => match condition {

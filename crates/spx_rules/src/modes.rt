@@ -214,7 +214,7 @@ fn obey_arms(around: Around, arms: &[CoreArm], otherwise: &[CoreStmt]) -> Result
     let mut here = around;
     for (at, arm) in arms.iter().enumerate() {
         let inside = arm_in(here, &arms[at + 1..], otherwise);
-        obey_stmts(inside, arm.body.get().as_slice())?;
+        obey_stmts(inside, arm.body.as_slice())?;
         here = Around::Other;
     }
     Ok(here)
@@ -250,16 +250,16 @@ fn obey_stmt(around: Around, stmt: &CoreStmt) -> Result<(), Breach>
             keeps(RuleName::U2, name.name.place, kept)
         }
         CoreStmt::If(arms, None, _) => {
-            obey_arms(around, arms.get().as_slice(), &[])?;
+            obey_arms(around, arms.as_slice(), &[])?;
             Ok(())
         }
         CoreStmt::If(arms, Some(stmts), _) => {
-            let stmts = stmts.get().as_slice();
-            let after = obey_arms(around, arms.get().as_slice(), stmts)?;
+            let stmts = stmts.as_slice();
+            let after = obey_arms(around, arms.as_slice(), stmts)?;
             obey_stmts(after, stmts)
         }
-        CoreStmt::Case(_, _, alternatives, _) => obey_alternatives(alternatives.get().as_slice()),
-        CoreStmt::Loop(_, _, body, _) => obey_stmts(Around::Loop, body.get().as_slice()),
+        CoreStmt::Case(_, _, alternatives, _) => obey_alternatives(alternatives.as_slice()),
+        CoreStmt::Loop(_, _, body, _) => obey_stmts(Around::Loop, body.as_slice()),
         CoreStmt::Assertion(_, _, _) => Ok(()),
         CoreStmt::Exit(place, None) => keeps(RuleName::U4, *place, is_end_of_arm(around)),
         CoreStmt::Exit(place, Some(_)) => keeps(RuleName::U4, *place, is_loop(around)),

@@ -59,6 +59,8 @@ fn read_allowed(tables: &Tables, allowed: Allowed, expr: &CoreExpr) -> Result<()
             read_allowed(tables, allowed, index.get())
         }
         CoreExpr::Selected(prefix, _, _) => read_allowed(tables, allowed, prefix.get()),
+        CoreExpr::ArrayAttribute(_, _, _) => Ok(()),
+        CoreExpr::Faulty(_) => Ok(()),
     }
 }
 

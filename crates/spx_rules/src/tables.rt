@@ -21,6 +21,7 @@ pub struct Tables<'a> {
 
 impl<'a> Model for Tables<'a> {
     ghost use Rattle.std.specs.Coded.{codes};
+    ghost use Rattle.spx_tree.specs.contracts.expression.Expr as written;
     ghost use Rattle.spx_core.specs.declared.subprogram.Sub.{Sub};
     ghost use Rattle.spx_core.specs.contracts.expression.CoreExpr as expression;
     ghost use Rattle.spx_core.specs.contracts.statement.CoreStmt as statement;
@@ -28,7 +29,7 @@ impl<'a> Model for Tables<'a> {
 
     ghost Value = { Sub };
 
-    ghost coded = { Prim.hlevel (codes, expression.the_row.coded, statement.the_row.coded) };
+    ghost coded = { Prim.hlevel (codes, written.the_row.coded, expression.the_row.coded, statement.the_row.coded) };
 
     ghost view = { λ t. t.sub.now };
 

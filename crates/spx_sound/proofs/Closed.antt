@@ -16,7 +16,7 @@ use Rattle.spx_core.specs.declared.program.Program.{Program}
 use Rattle.spx_core.specs.declared.statement.CoreCount.{CoreCount}
 use Rattle.spx_core.specs.declared.statement.CoreRange.{CoreRange}
 use Rattle.spx_core.specs.declared.subprogram.Sub.{Sub}
-use Rattle.spx_core.specs.Judged.{Judged, application}
+use Rattle.spx_core.specs.Judged.{Judged, application, attribute_of}
 use Rattle.spx_core.specs.Uses.{variable_of}
 use Rattle.spx_core.proofs.Callers.Expressions.{Cases, induct}
 use Rattle.spx_term.specs.declared.term.Name.{Name}
@@ -44,7 +44,7 @@ use Rattle.spx_meaning.specs.Evaluation.{term_op}
 use Rattle.spx_meaning.specs.Literals.{literal}
 use Rattle.spx_meaning.specs.Parts.{array_of, field_name}
 use Rattle.spx_meaning.specs.Stores.{component_of, type_of}
-use Rattle.spx_formula.specs.Terms.{first_name, last_name, first_term, last_term, member_term, between, named, now, now_term, literal_or, moved_term, signed_term, term_of, term_with, term_with-Number, term_with-Parenthesized, term_with-Implicit, term_with-Prefix, term_with-Infix, term_with-InType, term_with-InRange, term_with-Name, term_with-Entry, term_with-Attribute, mapped_term, term_with-Applied, term_with-Element, term_with-Selected, step_of}
+use Rattle.spx_formula.specs.Terms.{first_name, last_name, first_term, last_term, member_term, between, named, now, now_term, literal_or, moved_term, signed_term, term_of, term_with, term_with-Number, term_with-Parenthesized, term_with-Implicit, term_with-Prefix, term_with-Infix, term_with-InType, term_with-InRange, term_with-Name, term_with-Entry, term_with-Attribute, mapped_term, term_with-Applied, term_with-Element, term_with-Selected, term_with-ArrayAttribute, term_with-Faulty, step_of}
 use Rattle.spx_paths.specs.Walks.{bound_term, is_fixed, low_term, high_term, next_term, start_term}
 
 -- a name of the program may take the value of the term
@@ -178,6 +178,8 @@ module _ (present entered : VarId → Term) (presents : (x : VarId) → IsClosed
         (member_closed o (the_term a) (the_term low) (the_term high) h k m);
     element = λ a place i x h k. subst IsClosed (sym (term_with-Element present entered a place i x)) (binary_closed (binary.Element (array_of x)) (the_term a) (the_term i) h k);
     selected = λ a field x h. subst IsClosed (sym (term_with-Selected present entered a field x)) (unary_closed (unary.Field (field_name x) (component_of x.field)) (the_term a) h);
+    array_attribute = λ a designator x h. subst IsClosed (sym (term_with-ArrayAttribute present entered a designator x)) (number_closed (attribute_of x.index designator.text));
+    faulty = λ faulty. subst IsClosed (sym (term_with-Faulty present entered faulty)) (number_closed (pos 0));
   }
 
   term_closed : (e : CoreExpr) → HasClosedTerm e

@@ -1,5 +1,5 @@
 -- Which trees are texts of the grammar, within so many levels.
-use Rattle.std.specs.Prelude.{◌≡◌, ◌⊎◌, ⊤, ℕ, zero, suc, ◌+◌, ◌-◌, ◌≤◌, ◌<◌, max, List, [], ◌∷◌, Option, Some, None}
+use Rattle.std.specs.Prelude.{◌≡◌, ◌⊎◌, ⊤, ℕ, zero, suc, ◌-◌, ◌≤◌, ◌<◌, List, [], ◌∷◌, ◌++◌, map, replicate, Option, Some, None}
 use Rattle.spx_tree.specs.declared.expression.Identifier.{Identifier}
 use Rattle.spx_tree.specs.declared.expression.InfixOp.{InfixOp}
 use Rattle.spx_tree.specs.declared.expression.InfixOp.TheVariants as op
@@ -7,8 +7,12 @@ use Rattle.spx_tree.specs.declared.expression.PrefixOp.{PrefixOp}
 use Rattle.spx_tree.specs.declared.expression.PrefixOp.TheVariants as sign
 use Rattle.spx_tree.specs.declared.expression.Layer.{Layer}
 use Rattle.spx_tree.specs.declared.expression.Layer.TheVariants as layer
+use Rattle.spx_tree.specs.declared.expression.Arguments.TheVariants as arguments
+use Rattle.spx_tree.specs.declared.expression.NameStep.{NameStep}
+use Rattle.spx_tree.specs.declared.expression.NameStep.TheVariants as step
+use Rattle.spx_tree.specs.declared.expression.Path.{Path}
 use Rattle.spx_tree.specs.declared.expression.Name.{Name}
-use Rattle.spx_tree.specs.declared.expression.Expr.{Expr}
+use Rattle.spx_tree.specs.declared.expression.Expr.{Expr, Expr-F, out-Expr}
 use Rattle.spx_tree.specs.declared.expression.Expr.TheVariants as expr
 use Rattle.spx_tree.specs.declared.declaration.Decl.{Decl}
 use Rattle.spx_tree.specs.declared.declaration.FieldDecl.{FieldDecl}
@@ -33,7 +37,6 @@ use Rattle.spx_tree.specs.declared.subprogram.FormalPart.{FormalPart}
 use Rattle.spx_tree.specs.declared.subprogram.Subprogram.{Subprogram}
 use Rattle.spx_tree.specs.declared.subprogram.Unit.{Unit}
 use Rattle.spx_tree.specs.declared.subprogram.Unit.TheVariants as unit
-use Rattle.spx_tree.specs.Written.{applied, parenthesized, signed, operation, in_type, in_range}
 
 -- Lists.
 
@@ -57,22 +60,6 @@ IfThere P (Some x) = P x
 -- identifier {"," identifier}
 abbrev pub IsIdentifiers : List Identifier → Type 0
 IsIdentifiers identifiers = OneOrMore (λ identifier. ⊤) identifiers
-
--- name {"," name}
-abbrev pub IsNames : List Name → Type 0
-IsNames names = OneOrMore (λ name. ⊤) names
-
--- how many parentheses, operators and membership tests lie on the longest way down
-abbrev pub height : Expr → ℕ
-height (expr.Number value place) = 0
-height (expr.Name name) = 0
-height (expr.Entry identifier) = 0
-height (applied function place operand) = height operand + 1
-height (parenthesized place inner) = height inner + 1
-height (signed op place operand) = height operand + 1
-height (operation op place left right) = max (height left) (height right) + 1
-height (in_type op place tested type_name) = height tested + 1
-height (in_range op place tested low high) = max (height tested) (max (height low) (height high)) + 1
 
 -- the layer of an operator: `**` (Ada 95 RM 4.5.6), multiplying operators (4.5.5), adding operators (4.5.3), relational operators (4.5.2),
 -- logical operators and short-circuit forms (4.5.1), `->` and `<->` (Barnes)
@@ -115,29 +102,33 @@ rank layer.Relation = 4
 rank layer.Expression = 5
 rank layer.Predicate = 6
 
--- the layer of an expression is that of its operator
+-- the layer of an expression is that of its operator, by its last level
+abbrev pub layer_at : Expr-F Expr → Layer
+layer_at (Expr-F.Infix op place left right) = layer_of op
+layer_at (Expr-F.Prefix op place operand) = layer_before op
+layer_at (Expr-F.InType op place tested path parts) = layer.Relation
+layer_at (Expr-F.InRange op place tested low high) = layer.Relation
+layer_at (Expr-F.Parenthesized place inner) = layer.Primary
+layer_at (Expr-F.Number value place) = layer.Primary
+layer_at (Expr-F.Name path parts) = layer.Primary
+
+-- the layer of an expression
 abbrev pub layer_in : Expr → Layer
-layer_in (operation op place left right) = layer_of op
-layer_in (signed op place operand) = layer_before op
-layer_in (in_type op place tested type_name) = layer.Relation
-layer_in (in_range op place tested low high) = layer.Relation
-layer_in (applied function place operand) = layer.Primary
-layer_in (parenthesized place inner) = layer.Primary
-layer_in (expr.Number value place) = layer.Primary
-layer_in (expr.Name name) = layer.Primary
-layer_in (expr.Entry identifier) = layer.Primary
+layer_in e = layer_at (out-Expr e)
+
+-- the last level is an operation with this operator
+abbrev pub IsOperation : InfixOp → Expr-F Expr → Type 0
+IsOperation op (Expr-F.Infix other place left right) = other ≡ op
+IsOperation op (Expr-F.Prefix other place operand) = ⊥
+IsOperation op (Expr-F.InType other place tested path parts) = ⊥
+IsOperation op (Expr-F.InRange other place tested low high) = ⊥
+IsOperation op (Expr-F.Parenthesized place inner) = ⊥
+IsOperation op (Expr-F.Number value place) = ⊥
+IsOperation op (Expr-F.Name path parts) = ⊥
 
 -- the expression is an operation with this operator
 abbrev pub HasOperator : InfixOp → Expr → Type 0
-HasOperator op (operation other place left right) = other ≡ op
-HasOperator op (signed other place operand) = ⊥
-HasOperator op (in_type other place tested type_name) = ⊥
-HasOperator op (in_range other place tested low high) = ⊥
-HasOperator op (applied function place operand) = ⊥
-HasOperator op (parenthesized place inner) = ⊥
-HasOperator op (expr.Number value place) = ⊥
-HasOperator op (expr.Name name) = ⊥
-HasOperator op (expr.Entry identifier) = ⊥
+HasOperator op e = IsOperation op (out-Expr e)
 
 -- what an operator of this layer has on its left: terms and sums nest to the left, and so do logical operations, each with its own operator only; the rest
 -- does not nest
@@ -171,32 +162,68 @@ operand_layer sign.Minus = layer.Term
 operand_layer sign.Abs = layer.Primary
 operand_layer sign.Not = layer.Primary
 
--- of this layer, or of one before it
-abbrev pub IsUpTo : Layer → Expr → Type 0
-IsUpTo layer e = rank (layer_in e) ≤ rank layer
+-- The layers that the expressions of a name are of, in the order of the text.
 
--- each operand is of a layer that its operator has there
-abbrev pub Layered : Expr → Type 0
-Layered (expr.Number value place) = ⊤
-Layered (expr.Name name) = ⊤
-Layered (expr.Entry identifier) = ⊤
-Layered (applied function place operand) = Layered operand × IsUpTo layer.Expression operand
-Layered (parenthesized place inner) = Layered inner
-Layered (signed op place operand) = Layered operand × IsUpTo (operand_layer op) operand
-Layered (operation op place left right) = Layered left × Layered right × LeftFits op left × IsUpTo (right_layer (layer_of op)) right
-Layered (in_type op place tested type_name) = Layered tested × IsUpTo layer.Sum tested
-Layered (in_range op place tested low high) = Layered tested × IsUpTo layer.Sum tested × Layered low × IsUpTo layer.Sum low × Layered high × IsUpTo layer.Sum high
+-- one step has expressions of these layers
+abbrev pub layers_of_step : NameStep → List Layer
+layers_of_step (step.Selected selector) = []
+layers_of_step (step.Attribute designator) = []
+layers_of_step (step.Applied place (arguments.Positional count)) = replicate count layer.Expression
+layers_of_step (step.Applied place (arguments.Named names)) = map (λ name. layer.Expression) names
+layers_of_step (step.Qualified place) = layer.Expression ∷ []
+layers_of_step step.Entry = []
+
+-- so have all steps
+abbrev pub layers_of : List NameStep → List Layer
+layers_of [] = []
+layers_of (s ∷ steps) = layers_of_step s ++ layers_of steps
+
+-- one expression or more in each pair of parentheses
+abbrev pub IsStep : NameStep → Type 0
+IsStep (step.Selected selector) = ⊤
+IsStep (step.Attribute designator) = ⊤
+IsStep (step.Applied place (arguments.Positional count)) = 0 < count
+IsStep (step.Applied place (arguments.Named names)) = IsIdentifiers names
+IsStep (step.Qualified place) = ⊤
+IsStep step.Entry = ⊤
+
+-- expressions of these layers, one each
+abbrev pub AreOf : {A : Type 0} → (Layer → A → Type 0) → List Layer → List A → Type 0
+AreOf Inner [] [] = ⊤
+AreOf Inner (l ∷ layers) (e ∷ parts) = Inner l e × AreOf Inner layers parts
+AreOf Inner [] (e ∷ parts) = ⊥
+AreOf Inner (l ∷ layers) [] = ⊥
+
+-- identifier {step}: "." identifier | "'" identifier | "(" arguments ")" | "'" "(" expression ")" | "~", which is a lexeme of annotation text only,
+-- where the arguments are expression {"," expression} | identifier "=>" expression {"," identifier "=>" expression}; and the expressions of the steps
+abbrev pub IsPath : {A : Type 0} → (Layer → A → Type 0) → Path → List A → Type 0
+IsPath Inner path parts = Each IsStep path.steps × AreOf Inner (layers_of path.steps) parts
+
+-- One level, whose parts are one level down: each operand is of a layer that its operator has there. A type after `in` is a name one level down,
+-- as a bound is, so that its own expressions are two levels down.
+abbrev pub IsNode : (Layer → Expr → Type 0) → Expr-F Expr → Type 0
+IsNode Inner (Expr-F.Number value place) = ⊤
+IsNode Inner (Expr-F.Name path parts) = IsPath Inner path parts
+IsNode Inner (Expr-F.Parenthesized place inner) = Inner layer.Predicate inner
+IsNode Inner (Expr-F.Prefix op place operand) = Inner (operand_layer op) operand
+IsNode Inner (Expr-F.Infix op place left right) = Inner layer.Predicate left × LeftFits op left × Inner (right_layer (layer_of op)) right
+IsNode Inner (Expr-F.InType op place tested path parts) = Inner layer.Sum tested × Inner layer.Primary (expr.Name path parts)
+IsNode Inner (Expr-F.InRange op place tested low high) = Inner layer.Sum tested × Inner layer.Sum low × Inner layer.Sum high
+
+-- an expression of this layer, or of one before it, one level below a place where so many levels are left
+abbrev pub LayerWithin : ℕ → Layer → Expr → Type 0
+LayerWithin zero layer e = ⊥
+LayerWithin (suc levels) layer e = (rank (layer_in e) ≤ rank layer) × IsNode (LayerWithin levels) (out-Expr e)
 
 -- An expression of this layer, or of one before it, within so many levels:
 -- expression = relation {"and" relation} | relation {"or" relation} | relation {"xor" relation} | relation {"and" "then" relation} | relation {"or" "else" relation}
 -- relation = sum [relational operator sum] | sum ["not"] "in" (name | sum ".." sum);  sum = [sign] term {adding operator term}
--- predicate = expression [("->" | "<->") expression], where `->`, `<->` and `~` are lexemes of annotation text only
+-- predicate = expression [("->" | "<->") expression], where `->` and `<->` are lexemes of annotation text only
 -- term = factor {multiplying operator factor};  factor = primary ["**" primary] | "abs" primary | "not" primary
--- primary = number | name | identifier "~" | identifier ["'" identifier] "(" expression ")" | identifier "'" "(" expression ")" | "(" predicate ")"
-pub record OfLayer (layer : Layer) (levels : ℕ) (e : Expr) : Type 0 where
-  pub low : height e ≤ levels
-  pub layered : Layered e
-  pub of_layer : rank (layer_in e) ≤ rank layer
+-- primary = number | name | "(" predicate ")"
+-- The parentheses of an expression, those after a name, operators and membership tests open a level each.
+abbrev pub OfLayer : Layer → ℕ → Expr → Type 0
+OfLayer layer levels e = (rank (layer_in e) ≤ rank layer) × IsNode (LayerWithin levels) (out-Expr e)
 
 -- expression (Ada 95 RM 4.4)
 abbrev pub IsExpr : ℕ → Expr → Type 0
@@ -206,6 +233,14 @@ IsExpr = OfLayer layer.Expression
 abbrev pub IsCondition : ℕ → Expr → Type 0
 IsCondition = OfLayer layer.Predicate
 
+-- name (Ada 95 RM 4.1)
+abbrev pub IsName : ℕ → Name → Type 0
+IsName levels name = IsPath (LayerWithin levels) name.path name.parts
+
+-- name {"," name}
+abbrev pub IsNames : ℕ → List Name → Type 0
+IsNames levels names = OneOrMore (IsName levels) names
+
 -- Declarations (Ada 95 RM 3).
 
 -- sum ".." sum (Ada 95 RM 3.5)
@@ -214,23 +249,23 @@ pub record IsRange (levels : ℕ) (range : Range) : Type 0 where
   pub high : OfLayer layer.Sum levels range.high
 
 -- identifiers ":" name ";" (Ada 95 RM 3.8)
-abbrev pub IsFieldDecl : FieldDecl → Type 0
-IsFieldDecl field = IsIdentifiers field.names
+abbrev pub IsFieldDecl : ℕ → FieldDecl → Type 0
+IsFieldDecl levels field = IsIdentifiers field.names × IsName levels field.type_name
 
 -- "range" range (Ada 95 RM 3.5.4) | "(" identifiers ")" (3.5.1) | "array" "(" name ")" "of" name (3.6) | "record" field {field} "end" "record" (3.8)
 abbrev pub IsDefinition : ℕ → TypeDef → Type 0
 IsDefinition levels (definition.Integer range) = IsRange levels range
 IsDefinition levels (definition.Enumeration place literals) = IsIdentifiers literals
-IsDefinition levels (definition.Array place index element) = ⊤
-IsDefinition levels (definition.Record fields end) = OneOrMore IsFieldDecl fields
+IsDefinition levels (definition.Array place index element) = IsName levels index × IsName levels element
+IsDefinition levels (definition.Record fields end) = OneOrMore (IsFieldDecl levels) fields
 
 -- identifiers ":" name [":=" expression] ";" | identifiers ":" "constant" [name] ":=" expression ";" (Ada 95 RM 3.3.1, 3.3.2)
 -- | "type" identifier "is" definition ";" (3.2.1) | "subtype" identifier "is" name ["range" range] ";" (3.2.2)
 abbrev pub IsDecl : ℕ → Decl → Type 0
-IsDecl levels (decl.Variables names type_name value) = IsIdentifiers names × IfThere (IsExpr levels) value
-IsDecl levels (decl.Constants names type_name value) = IsIdentifiers names × IsExpr levels value
+IsDecl levels (decl.Variables names type_name value) = IsIdentifiers names × IsName levels type_name × IfThere (IsExpr levels) value
+IsDecl levels (decl.Constants names type_name value) = IsIdentifiers names × IfThere (IsName levels) type_name × IsExpr levels value
 IsDecl levels (decl.FullType name definition) = IsDefinition levels definition
-IsDecl levels (decl.Subtype name parent range) = IfThere (IsRange levels) range
+IsDecl levels (decl.Subtype name parent range) = IsName levels parent × IfThere (IsRange levels) range
 
 -- Statements (Ada 95 RM 5).
 
@@ -250,7 +285,7 @@ IsAlternative levels Inner alternative = IfThere (OneOrMore (IsChoice (levels - 
 -- "while" expression | "for" identifier "in" ["reverse"] name ["range" range] | nothing (Ada 95 RM 5.5)
 abbrev pub IsScheme : ℕ → Scheme → Type 0
 IsScheme levels (scheme.While place condition) = IsExpr levels condition
-IsScheme levels (scheme.For c) = IfThere (IsRange levels) c.bounds
+IsScheme levels (scheme.For c) = IsName levels c.type_name × IfThere (IsRange levels) c.bounds
 IsScheme levels scheme.Endless = ⊤
 
 -- one level: "null" ";" (Ada 95 RM 5.1) | name ":=" expression ";" (5.2) | "if" arm {"elsif" arm} ["else" statements] "end" "if" ";" (5.3)
@@ -258,7 +293,7 @@ IsScheme levels scheme.Endless = ⊤
 -- | ("assert" | "check") predicate ";" (Barnes)
 abbrev pub IsFormed : ℕ → (Stmt → Type 0) → Stmt-F Stmt Alternative Arm → Type 0
 IsFormed levels Inner (Stmt-F.Null place) = ⊤
-IsFormed levels Inner (Stmt-F.Assignment target value) = IsExpr levels value
+IsFormed levels Inner (Stmt-F.Assignment target value) = IsName levels target × IsExpr levels value
 IsFormed levels Inner (Stmt-F.If arms otherwise closing) = (0 < levels) × OneOrMore (λ arm. IsArm levels Inner (out-Arm arm)) arms × IfThere (OneOrMore Inner) otherwise
 IsFormed levels Inner (Stmt-F.Case place selector alternatives closing) =
     (0 < levels) × IsExpr (levels - 1) selector × OneOrMore (λ alternative. IsAlternative levels Inner (out-Alternative alternative)) alternatives
@@ -282,17 +317,17 @@ IsStmts levels stmts = OneOrMore (IsStmt levels) stmts
 -- Annotations (Barnes, High Integrity Software).
 
 -- names "from" imports, which may be none | "null" "from" names
-abbrev pub HasImportsFor : Exports → Imports → Type 0
-HasImportsFor (exported.Names names) imports = IsNames names
-HasImportsFor (exported.Null place) imports = (imports.itself ≡ None) × IsNames imports.names
+abbrev pub HasImportsFor : ℕ → Exports → Imports → Type 0
+HasImportsFor levels (exported.Names names) imports = IsNames levels names × Each (IsName levels) imports.names
+HasImportsFor levels (exported.Null place) imports = (imports.itself ≡ None) × IsNames levels imports.names
 
 -- exports "from" imports: one item of a derives annotation
-abbrev pub IsItem : DerivesItem → Type 0
-IsItem item = HasImportsFor item.exports item.imports
+abbrev pub IsItem : ℕ → DerivesItem → Type 0
+IsItem levels item = HasImportsFor levels item.exports item.imports
 
 -- "derives" item {"&" item} ";"
-abbrev pub IsDerives : Derives → Type 0
-IsDerives derives = OneOrMore IsItem derives.items
+abbrev pub IsDerives : ℕ → Derives → Type 0
+IsDerives levels derives = OneOrMore (IsItem levels) derives.items
 
 -- word predicate ";"
 abbrev pub IsPredicate : ℕ → Predicate → Type 0
@@ -301,17 +336,17 @@ IsPredicate levels predicate = IsCondition levels predicate.condition
 -- Subprograms and units (Ada 95 RM 6 and 10).
 
 -- identifiers ":" mode name (Ada 95 RM 6.1)
-abbrev pub IsParam : Param → Type 0
-IsParam param = IsIdentifiers param.names
+abbrev pub IsParam : ℕ → Param → Type 0
+IsParam levels param = IsIdentifiers param.names × IsName levels param.type_name
 
 -- "(" param {";" param} ")" (Ada 95 RM 6.1)
-abbrev pub IsFormalPart : FormalPart → Type 0
-IsFormalPart part = OneOrMore IsParam part.params
+abbrev pub IsFormalPart : ℕ → FormalPart → Type 0
+IsFormalPart levels part = OneOrMore (IsParam levels) part.params
 
 -- "procedure" identifier [formal part] [derives] [pre] [post] "is" {declaration} "begin" statement {statement} "end" [identifier] ";" (Ada 95 RM 6.3)
 pub record IsSubprogram (levels : ℕ) (sub : Subprogram) : Type 0 where
-  pub formal_part : IfThere IsFormalPart sub.formal_part
-  pub derives : IfThere IsDerives sub.derives
+  pub formal_part : IfThere (IsFormalPart levels) sub.formal_part
+  pub derives : IfThere (IsDerives levels) sub.derives
   pub pre : IfThere (IsPredicate levels) sub.pre
   pub post : IfThere (IsPredicate levels) sub.post
   pub declarations : Each (IsDecl levels) sub.declarations

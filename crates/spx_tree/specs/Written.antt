@@ -1,5 +1,5 @@
 -- The forms with which a tree is written: one case for each production.
-use Rattle.std.specs.Prelude.{Bool, true, false, List, [], ◌∷◌, ◌++◌, map, Option, Some, None}
+use Rattle.std.specs.Prelude.{ℕ, Bool, true, false, List, [], ◌∷◌, ◌++◌, map, length, take, drop, Option, Some, None}
 use Rattle.spx_text.specs.declared.place.Place.{Place}
 use Rattle.spx_tree.specs.declared.token.Kind.{Kind}
 use Rattle.spx_tree.specs.declared.token.Kind.TheVariants as k
@@ -10,14 +10,13 @@ use Rattle.spx_tree.specs.declared.expression.PrefixOp.{PrefixOp}
 use Rattle.spx_tree.specs.declared.expression.PrefixOp.TheVariants as sign
 use Rattle.spx_tree.specs.declared.expression.MemberOp.{MemberOp}
 use Rattle.spx_tree.specs.declared.expression.MemberOp.TheVariants as member
+use Rattle.spx_tree.specs.declared.expression.Arguments.{Arguments}
+use Rattle.spx_tree.specs.declared.expression.Arguments.TheVariants as arguments
+use Rattle.spx_tree.specs.declared.expression.NameStep.{NameStep}
+use Rattle.spx_tree.specs.declared.expression.NameStep.TheVariants as step
+use Rattle.spx_tree.specs.declared.expression.Path.{Path}
 use Rattle.spx_tree.specs.declared.expression.Name.{Name}
-use Rattle.spx_tree.specs.declared.expression.Name.TheVariants.{Simple, Attribute}
-use Rattle.spx_tree.specs.declared.expression.Expr.{Expr, end_of-Expr, more_of-Expr}
-use Rattle.spx_tree.specs.declared.expression.Expr.TheVariants as expr
-use Rattle.spx_tree.specs.declared.expression.Expr.TheVariants.{Applied', Parenthesized', Prefix', Infix', InType', InRange'}
-use Rattle.spx_tree.specs.declared.expression.Function.{Function}
-use Rattle.spx_tree.specs.declared.expression.FunctionForm.{FunctionForm}
-use Rattle.spx_tree.specs.declared.expression.FunctionForm.TheVariants as function
+use Rattle.spx_tree.specs.declared.expression.Expr.{Expr, Expr-F, fold-Expr}
 use Rattle.spx_tree.specs.declared.declaration.Decl.{Decl}
 use Rattle.spx_tree.specs.declared.declaration.FieldDecl.{FieldDecl}
 use Rattle.spx_tree.specs.declared.declaration.Decl.TheVariants as decl
@@ -87,15 +86,6 @@ written_identifier marked identifier = named marked identifier ∷ []
 abbrev pub written_identifiers : Bool → List Identifier → List Form
 written_identifiers marked identifiers = separated (bare marked k.Comma) (written_identifier marked) identifiers
 
--- identifier | identifier "'" identifier
-abbrev pub written_name : Bool → Name → List Form
-written_name marked (Simple identifier) = named marked identifier ∷ []
-written_name marked (Attribute prefix designator) = named marked prefix ∷ bare marked k.Apostrophe ∷ named marked designator ∷ []
-
--- name {"," name}
-abbrev pub written_names : Bool → List Name → List Form
-written_names marked names = separated (bare marked k.Comma) (written_name marked) names
-
 -- the token that an operator is, or its first one
 abbrev pub operator_kind : InfixOp → Kind
 operator_kind op.Add = k.Plus
@@ -141,49 +131,71 @@ sign_kind sign.Minus = k.Minus
 sign_kind sign.Abs = k.Abs
 sign_kind sign.Not = k.Not
 
--- nothing | "'" identifier | "'"
-abbrev pub written_form : Bool → FunctionForm → List Form
-written_form marked function.Simple = []
-written_form marked (function.Attribute designator) = bare marked k.Apostrophe ∷ named marked designator ∷ []
-written_form marked function.Qualified = bare marked k.Apostrophe ∷ []
+-- Names. The expressions of a name are written already, in the order of the text, and each step takes its own.
 
--- a function and its operand
-pattern abbrev pub applied : Function → Place → Expr → Expr
-applied function place operand = Applied' function place tt (more_of-Expr operand end_of-Expr)
+-- how many expressions a step has
+abbrev pub takes : NameStep → ℕ
+takes (step.Selected selector) = 0
+takes (step.Attribute designator) = 0
+takes (step.Applied place (arguments.Positional count)) = count
+takes (step.Applied place (arguments.Named names)) = length names
+takes (step.Qualified place) = 1
+takes step.Entry = 0
 
--- an expression in parentheses
-pattern abbrev pub parenthesized : Place → Expr → Expr
-parenthesized place inner = Parenthesized' place tt (more_of-Expr inner end_of-Expr)
+-- an expression that is written
+abbrev pub same_forms : List Form → List Form
+same_forms forms = forms
 
--- an operand after an operator
-pattern abbrev pub signed : PrefixOp → Place → Expr → Expr
-signed op place operand = Prefix' op place tt (more_of-Expr operand end_of-Expr)
+-- identifier "=>" expression, for each
+abbrev pub named_parts : Bool → List Identifier → List (List Form) → List (List Form)
+named_parts marked [] parts = []
+named_parts marked (name ∷ names) [] = []
+named_parts marked (name ∷ names) (part ∷ parts) = (named marked name ∷ bare marked k.Arrow ∷ part) ∷ named_parts marked names parts
 
--- two operands under an operator
-pattern abbrev pub operation : InfixOp → Place → Expr → Expr → Expr
-operation op place left right = Infix' op place tt (more_of-Expr left end_of-Expr) tt (more_of-Expr right end_of-Expr)
+-- expression {"," expression} | identifier "=>" expression {"," identifier "=>" expression}
+abbrev pub written_arguments : Bool → Arguments → List (List Form) → List Form
+written_arguments marked (arguments.Positional count) parts = separated (bare marked k.Comma) same_forms parts
+written_arguments marked (arguments.Named names) parts = separated (bare marked k.Comma) same_forms (named_parts marked names parts)
 
--- a membership test in a type
-pattern abbrev pub in_type : MemberOp → Place → Expr → Name → Expr
-in_type op place tested type_name = InType' op place tt (more_of-Expr tested end_of-Expr) type_name
+-- "." identifier | "'" identifier | "(" arguments ")" | "'" "(" expression ")" | "~"
+abbrev pub written_step : Bool → NameStep → List (List Form) → List Form
+written_step marked (step.Selected selector) parts = bare marked k.Dot ∷ named marked selector ∷ []
+written_step marked (step.Attribute designator) parts = bare marked k.Apostrophe ∷ named marked designator ∷ []
+written_step marked (step.Applied place args) parts = placed marked k.LeftParenthesis place ∷ (written_arguments marked args parts ++ bare marked k.RightParenthesis ∷ [])
+written_step marked (step.Qualified place) parts = bare marked k.Apostrophe ∷ placed marked k.LeftParenthesis place ∷ (joined parts ++ bare marked k.RightParenthesis ∷ [])
+written_step marked step.Entry parts = bare marked k.Tilde ∷ []
 
--- a membership test in a range
-pattern abbrev pub in_range : MemberOp → Place → Expr → Expr → Expr → Expr
-in_range op place tested low high = InRange' op place tt (more_of-Expr tested end_of-Expr) tt (more_of-Expr low end_of-Expr) tt (more_of-Expr high end_of-Expr)
+-- {step}
+abbrev pub written_steps : Bool → List NameStep → List (List Form) → List Form
+written_steps marked [] parts = []
+written_steps marked (s ∷ steps) parts = written_step marked s (take (takes s) parts) ++ written_steps marked steps (drop (takes s) parts)
 
--- number | name | identifier "~" | function "(" expression ")" | "(" expression ")" | operator operand | operand operator operand | operand ["not"] "in" name | operand ["not"] "in" operand ".." operand
+-- identifier {step}
+abbrev pub written_path : Bool → Path → List (List Form) → List Form
+written_path marked path parts = named marked path.root ∷ written_steps marked path.steps parts
+
+-- one level, whose parts are written: number | name | "(" expression ")" | operator operand | operand operator operand | operand ["not"] "in" name
+-- | operand ["not"] "in" operand ".." operand
+abbrev pub expr_step : Bool → Expr-F (List Form) → List Form
+expr_step marked (Expr-F.Number value place) = literal marked value place ∷ []
+expr_step marked (Expr-F.Name path parts) = written_path marked path parts
+expr_step marked (Expr-F.Parenthesized place inner) = placed marked k.LeftParenthesis place ∷ (inner ++ bare marked k.RightParenthesis ∷ [])
+expr_step marked (Expr-F.Prefix op place operand) = placed marked (sign_kind op) place ∷ operand
+expr_step marked (Expr-F.Infix op place left right) = left ++ (written_operator marked op place ++ right)
+expr_step marked (Expr-F.InType op place tested path parts) = tested ++ (written_member marked op place ++ written_path marked path parts)
+expr_step marked (Expr-F.InRange op place tested low high) = tested ++ (written_member marked op place ++ (low ++ bare marked k.DoubleDot ∷ high))
+
+-- expression
 abbrev pub written_expr : Bool → Expr → List Form
-written_expr marked (expr.Number value place) = literal marked value place ∷ []
-written_expr marked (expr.Name name) = written_name marked name
-written_expr marked (expr.Entry identifier) = named marked identifier ∷ bare marked k.Tilde ∷ []
-written_expr marked (applied function place operand) =
-    named marked function.name ∷ (written_form marked function.form ++ (placed marked k.LeftParenthesis place ∷ (written_expr marked operand ++ bare marked k.RightParenthesis ∷ [])))
-written_expr marked (parenthesized place inner) = placed marked k.LeftParenthesis place ∷ (written_expr marked inner ++ bare marked k.RightParenthesis ∷ [])
-written_expr marked (signed op place operand) = placed marked (sign_kind op) place ∷ written_expr marked operand
-written_expr marked (operation op place left right) = written_expr marked left ++ (written_operator marked op place ++ written_expr marked right)
-written_expr marked (in_type op place tested type_name) = written_expr marked tested ++ (written_member marked op place ++ written_name marked type_name)
-written_expr marked (in_range op place tested low high) =
-    written_expr marked tested ++ (written_member marked op place ++ (written_expr marked low ++ bare marked k.DoubleDot ∷ written_expr marked high))
+written_expr marked = fold-Expr (List Form) (expr_step marked)
+
+-- name
+abbrev pub written_name : Bool → Name → List Form
+written_name marked name = written_path marked name.path (map (written_expr marked) name.parts)
+
+-- name {"," name}
+abbrev pub written_names : Bool → List Name → List Form
+written_names marked names = separated (bare marked k.Comma) (written_name marked) names
 
 -- Declarations (Ada 95 RM 3).
 

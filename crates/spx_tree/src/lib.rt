@@ -18,7 +18,7 @@ mod token;
 pub use annotation::{Derives, DerivesItem, Exports, Imports, Predicate};
 pub use declaration::{Decl, FieldDecl, Range, TypeDef};
 pub use expression::{
-    Expr, Function, FunctionForm, Identifier, InfixOp, Layer, MemberOp, Name, PrefixOp,
+    Arguments, Expr, Identifier, InfixOp, Layer, MemberOp, Name, NameStep, Path, PrefixOp,
     copy_identifiers,
 };
 pub use laws::{one_spelling, one_stop};

@@ -3,11 +3,11 @@ ghost use Rattle.std.specs.Prelude.{◌≡◌};
 ghost use Rattle.spx_core.specs.Judged as rules;
 
 use crate::names::{keeps, named_type};
-use crate::types::{has_literals, has_numbers};
+use crate::types::{has_literals, has_numbers, is_typed_at};
 use crate::values::span_of_base;
 use spx_core::{
-    BaseType, Breach, CoreName, ExprType, INTEGER, Mapping, OperandType, RuleName, Shift, Subtype,
-    Typing,
+    ArrayEnds, BaseType, Breach, CoreName, ExprType, INTEGER, Mapping, OperandType, RuleName,
+    Shift, Subtype, Typing,
 };
 use spx_text::Text;
 use spx_tree::Identifier;
@@ -18,14 +18,15 @@ fn is_first(designator: &Text) -> bool
     designator.as_bytes().eq_ignore_ascii_case(b"first")
 }
 
-fn is_attribute(designator: &Text) -> bool
+/// Whether it is `First` or `Last`.
+pub fn is_attribute(designator: &Text) -> bool
     ensures { result ≡ rules.is_attribute designator.now }
 {
     is_first(designator) || designator.as_bytes().eq_ignore_ascii_case(b"last")
 }
 
 /// The value of `'First` or `'Last`.
-fn attribute_of(subtype: Subtype, designator: &Text) -> i128
+pub fn attribute_of(subtype: Subtype, designator: &Text) -> i128
     ensures { result ≡ rules.attribute_of subtype designator.now }
 {
     if is_first(designator) {
@@ -33,6 +34,36 @@ fn attribute_of(subtype: Subtype, designator: &Text) -> i128
     } else {
         subtype.last
     }
+}
+
+/// Whether an index has the attribute: it is of a type that has an order.
+fn has_end(index: Subtype, designator: &Text) -> bool
+    ensures { result ≡ rules.has_end index designator.now }
+{
+    has_numbers(index.base.class) && is_attribute(designator)
+}
+
+/// `'First` or `'Last` of an array.
+pub fn array_attribute(
+    x: ArrayEnds,
+    designator: &Identifier,
+    prefix: Typing,
+) -> Result<Typing, Breach>
+    ensures { result ≡ rules.array_attribute x designator.now prefix }
+{
+    let place = prefix.place;
+    keeps(RuleName::N10, place, is_typed_at(x.array, prefix.of))?;
+    keeps(RuleName::N3, place, has_end(x.index, &designator.text))?;
+    let value = if x.is_static {
+        Some(attribute_of(x.index, &designator.text))
+    } else {
+        None
+    };
+    Ok(Typing {
+        of: ExprType::Of(x.index.base),
+        value,
+        place,
+    })
 }
 
 /// The function of an enumeration type that an attribute is.

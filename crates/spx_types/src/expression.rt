@@ -4,10 +4,10 @@ ghost use Rattle.spx_core.specs.Judged as rules;
 ghost use Rattle.spx_core.specs.Statements.{static_at};
 ghost use Rattle.spx_types.specs.TypeIds.{base_id, static, type_id};
 
-use crate::attributes::attribute;
+use crate::attributes::{array_attribute, attribute};
 use crate::functions::{application, mapped};
 use crate::membership::{member_of_range, member_of_type, ordered_type};
-use crate::names::{entry_value, keeps, named_value};
+use crate::names::{breach_of, entry_value, keeps, named_value};
 use crate::parts::{element, selected};
 use crate::types::{
     is_boolean, is_of, left_type, operand_fits, operands_fit, result_type, right_type,
@@ -134,6 +134,10 @@ pub fn judge(expr: &CoreExpr) -> Result<Typing, Breach>
         CoreExpr::Selected(prefix, _, selection) => {
             selected(*selection.get(), judge(prefix.get())?)
         }
+        CoreExpr::ArrayAttribute(prefix, designator, ends) => {
+            array_attribute(*ends.get(), designator, judge(prefix.get())?)
+        }
+        CoreExpr::Faulty(faulty) => Err(breach_of(faulty.get())),
     }
 }
 

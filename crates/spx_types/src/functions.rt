@@ -7,11 +7,10 @@ use crate::names::{keeps, named_type};
 use crate::types::{is_numeric, is_taken};
 use crate::values::{is_held, lies_in_operand, lies_within, shifted_value, span_of};
 use spx_core::{
-    Breach, Class, CoreFunction, ExprType, Mapping, OperandType, RuleName, Shift, Span, Subtype,
-    Typing,
+    Breach, Class, CoreFunction, ExprType, FunctionForm, Mapping, OperandType, RuleName, Shift,
+    Span, Subtype, Typing,
 };
 use spx_text::{Place, Text};
-use spx_tree::FunctionForm;
 
 /// What is asked of values of a class: nothing of truth values, and of values with parts.
 fn bounds_in(class: Class, span: Span) -> Option<Span>

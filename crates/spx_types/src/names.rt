@@ -5,10 +5,11 @@ ghost use Rattle.spx_core.specs.Judged as rules;
 use crate::types::has_parts;
 use crate::values::position_in;
 use spx_core::{
-    Breach, CoreName, Entity, ExprType, Object, Reference, RuleName, Step, Subtype, Typing,
-    UNIVERSAL,
+    Breach, CoreName, Entity, ExprType, FaultyName, NameFault, Object, Reference, RuleName,
+    Subtype, Typing, UNIVERSAL,
 };
 use spx_text::Place;
+use spx_tree::NameStep;
 
 /// Whether a rule is kept at the place: its breach, where it is not.
 pub fn keeps(rule: RuleName, place: Place, kept: bool) -> Result<(), Breach>
@@ -124,18 +125,43 @@ pub fn entry_value(name: &CoreName, allowed: bool) -> Result<Typing, Breach>
     })
 }
 
-pub fn is_whole(way: &[Step]) -> bool
-    ensures { result ≡ rules.is_whole way.now }
+pub fn is_whole(steps: &[NameStep]) -> bool
+    ensures { result ≡ rules.is_whole steps.now }
 {
-    matches!(way, [])
+    matches!(steps, [])
 }
 
 /// Nothing may follow the identifier.
 fn whole(reference: &Reference) -> Result<(), Breach>
     ensures { result ≡ rules.whole reference.now }
 {
-    let kept = is_whole(reference.way.as_slice());
+    let kept = is_whole(reference.steps.as_slice());
     keeps(RuleName::N3, reference.root.name.place, kept)
+}
+
+/// The rule that a name breaks whose first identifier denotes something.
+fn rule_of(fault: NameFault) -> RuleName
+    ensures { result ≡ rules.rule_of fault }
+{
+    match fault {
+        NameFault::NoField => RuleName::N1,
+        NameFault::WrongArguments => RuleName::N14,
+        NameFault::NoPart => RuleName::N3,
+    }
+}
+
+/// The breach of a name that denotes nothing.
+pub fn breach_of(faulty: &FaultyName) -> Breach
+    ensures { result ≡ rules.breach_of faulty.now }
+{
+    let rule = match faulty.root {
+        None => RuleName::N1,
+        Some(_) => rule_of(faulty.fault),
+    };
+    Breach {
+        rule,
+        place: faulty.name.path.root.place,
+    }
 }
 
 /// The type that a whole name denotes.

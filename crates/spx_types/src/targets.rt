@@ -4,11 +4,12 @@ ghost use Rattle.spx_core.specs.Judged as rules;
 ghost use Rattle.spx_types.specs.Ways.{FoundAtStep};
 
 use crate::expression::judge;
-use crate::names::{is_whole, keeps, named_target};
+use crate::names::{breach_of, keeps, named_target};
 use crate::parts::indexed;
 use crate::types::is_type_at;
-use spx_core::{Breach, PartStep, RuleName, Subtype, Target};
+use spx_core::{Breach, FaultyName, PartStep, RuleName, Subtype, Target};
 use spx_text::Place;
+use sqlite_items::Boxed;
 
 /// The type of the part to which a step leads from an object of this type. Any way goes on from there.
 fn judged_step(place: Place, subtype: Subtype, step: &PartStep) -> Result<Subtype, Breach>
@@ -40,13 +41,22 @@ pub fn judged_way(place: Place, subtype: Subtype, way: &[PartStep]) -> Result<Su
     Ok(part)
 }
 
-/// The type of what is assigned to: the root denotes a whole object, the way leads to a part of it, and nothing follows.
+/// The name denotes a part.
+fn leads(faulty: &Option<Boxed<FaultyName>>) -> Result<(), Breach>
+    ensures { result ≡ rules.leads faulty.now }
+{
+    match faulty {
+        None => Ok(()),
+        Some(faulty) => Err(breach_of(faulty.get())),
+    }
+}
+
+/// The type of what is assigned to: the root denotes a whole object, and the way leads to a part of it.
 pub fn referred_target(target: &Target) -> Result<Subtype, Breach>
     ensures { result ≡ rules.referred_target target.now }
 {
     let place = target.root.name.place;
     let object = named_target(&target.root)?;
-    let subtype = judged_way(place, object, target.way.as_slice())?;
-    keeps(RuleName::N3, place, is_whole(target.rest.as_slice()))?;
-    Ok(subtype)
+    leads(&target.faulty)?;
+    judged_way(place, object, target.way.as_slice())
 }

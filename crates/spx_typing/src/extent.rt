@@ -1,13 +1,14 @@
 // The values that a selector may have (Ada 95 RM 5.4).
 ghost use Rattle.std.specs.Prelude.{◌≡◌, Some, pos};
 ghost use Rattle.spx_core.specs.Extents as values;
-ghost use Rattle.spx_core.specs.Judged.{application, named_type};
+ghost use Rattle.spx_core.specs.Judged.{application, attribute_of, named_type};
 ghost use Rattle.spx_core.specs.Resolved.{static_value};
 ghost use Rattle.spx_core.specs.declared.expression.CoreExpr.{out-CoreExpr};
 
-use spx_core::{CoreExpr, CoreFunction, Entity, ExprType, Span, Typing};
-use spx_tree::{FunctionForm, InfixOp, PrefixOp};
-use spx_types::{application, judge, named_type, span_of, span_of_type};
+use spx_core::{CoreExpr, CoreFunction, Entity, ExprType, FunctionForm, Span, Subtype, Typing};
+use spx_text::Text;
+use spx_tree::{InfixOp, PrefixOp};
+use spx_types::{application, attribute_of, judge, named_type, span_of, span_of_type};
 
 /// Of a name the values of its subtype, for the present value and for that on entry.
 fn extent_named(of: ExprType, entity: Option<Entity>) -> Span
@@ -119,6 +120,13 @@ fn with_operands(op: InfixOp, own: Span, left: Span, right: Span) -> Span
     }
 }
 
+/// With the first or the last value of the index of an array.
+fn with_end(own: Span, index: Subtype, designator: &Text) -> Span
+    ensures { result ≡ values.hull own (values.only (attribute_of index designator.now)) }
+{
+    hull(own, only(attribute_of(index, designator)))
+}
+
 /// The values that an expression may have.
 #[tactic(auto, using(spx_core::specs::Extents::extent_forms))]
 #[cycle(extent)]
@@ -138,6 +146,9 @@ pub fn extent(expr: &CoreExpr) -> Span
             let second = operand_extent(right.get(), extent(right.get()));
             with_operands(*op, own, first, second)
         }
+        CoreExpr::ArrayAttribute(_, designator, ends) => {
+            with_end(own, ends.get().index, &designator.text)
+        }
         CoreExpr::Number(..)
         | CoreExpr::Name(_)
         | CoreExpr::Entry(..)
@@ -145,6 +156,7 @@ pub fn extent(expr: &CoreExpr) -> Span
         | CoreExpr::InType(..)
         | CoreExpr::InRange(..)
         | CoreExpr::Element(..)
-        | CoreExpr::Selected(..) => own,
+        | CoreExpr::Selected(..)
+        | CoreExpr::Faulty(_) => own,
     }
 }

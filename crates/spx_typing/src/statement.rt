@@ -115,7 +115,7 @@ fn judge_arms(arms: &[CoreArm]) -> Result<(), Breach>
 fn judge_body(arm: &CoreArm) -> Result<(), Breach>
     ensures { result ≡ rules.judged_command (commands (out-CoreArm arm.now).body) }
 {
-    judge_stmts(arm.body.get().as_slice())
+    judge_stmts(arm.body.as_slice())
 }
 
 /// The first broken rule in alternatives for values of this type.
@@ -163,17 +163,17 @@ fn judge_stmt(stmt: &CoreStmt) -> Result<(), Breach>
     match stmt {
         CoreStmt::Null(_) => Ok(()),
         CoreStmt::Assignment(target, value) => assignment(target.get(), value.get()),
-        CoreStmt::If(arms, None, _) => judge_arms(arms.get().as_slice()),
+        CoreStmt::If(arms, None, _) => judge_arms(arms.as_slice()),
         CoreStmt::If(arms, Some(stmts), _) => {
-            judge_arms(arms.get().as_slice())?;
-            judge_stmts(stmts.get().as_slice())
+            judge_arms(arms.as_slice())?;
+            judge_stmts(stmts.as_slice())
         }
         CoreStmt::Case(place, selector, alternatives, _) => {
-            let alternatives = alternatives.get().as_slice();
-            let of = judge_selector(*place.get(), selector.get(), alternatives)?;
+            let alternatives = alternatives.as_slice();
+            let of = judge_selector(*place, selector.get(), alternatives)?;
             judge_alternatives(of, alternatives)
         }
-        CoreStmt::Loop(scheme, _, body, _) => judge_loop(body.get().as_slice(), scheme.get()),
+        CoreStmt::Loop(scheme, _, body, _) => judge_loop(body.as_slice(), scheme),
         CoreStmt::Assertion(_, _, condition) => test(condition.get()),
         CoreStmt::Exit(_, None) => Ok(()),
         CoreStmt::Exit(_, Some(condition)) => test(condition.get()),

@@ -1,7 +1,7 @@
 -- The readers of names and expressions keep the laws of readers.
 use Rattle.std.specs.Prelude.{⊤}
-use Rattle.std.proofs.Common.{◌≡◌, inl, inr, ℕ, zero, suc, ◌+◌, ◌-◌, ◌≤◌, ◌<◌, max, Bool, List, [], ◌∷◌, ◌++◌, Option, Some, None, Ok, Err, refl, sym, ap, ap₂, subst, ◌∙◌, append_assoc, arith}
-use denote.Hole.Carrier.{hidden}
+use Rattle.std.proofs.Common.{◌≡◌, inl, inr, ℕ, zero, suc, ◌+◌, ◌-◌, ◌≤◌, ◌<◌, max, Bool, true, false, List, [], ◌∷◌, ◌++◌, map, length, Option, Some, None, Ok, Err, refl, sym, ap, ap₂, subst, ◌∙◌, append_assoc, arith}
+use Rattle.std.proofs.lemmas.List.{append-nil}
 use Rattle.spx_text.specs.declared.place.Place.{Place}
 use Rattle.spx_tree.specs.declared.token.Kind.{Kind}
 use Rattle.spx_tree.specs.declared.token.Kind.TheVariants as k
@@ -13,103 +13,59 @@ use Rattle.spx_tree.specs.declared.expression.MemberOp.{MemberOp}
 use Rattle.spx_tree.specs.declared.expression.MemberOp.TheVariants as members
 use Rattle.spx_tree.specs.declared.expression.Layer.{Layer}
 use Rattle.spx_tree.specs.declared.expression.Layer.TheVariants as layer
+use Rattle.spx_tree.specs.declared.expression.Arguments.{Arguments}
+use Rattle.spx_tree.specs.declared.expression.Arguments.TheVariants as arguments_as
+use Rattle.spx_tree.specs.declared.expression.NameStep.TheVariants as step
+use Rattle.spx_tree.specs.declared.expression.Path.{Path}
 use Rattle.spx_tree.specs.declared.expression.Name.{Name}
-use Rattle.spx_tree.specs.declared.expression.Name.TheVariants.{Simple, Attribute}
-use Rattle.spx_tree.specs.declared.expression.Function.{Function}
-use Rattle.spx_tree.specs.declared.expression.FunctionForm.TheVariants as forms
-use Rattle.spx_tree.specs.declared.expression.Expr.{Expr}
-use Rattle.spx_tree.specs.declared.expression.Expr.TheBlock.{hidden-the_row-Expr-0}
+use Rattle.spx_tree.specs.declared.expression.Expr.{Expr, Expr-F, out-Expr}
 use Rattle.spx_tree.specs.declared.expression.Expr.TheVariants as expr
-use Rattle.spx_tree.specs.Form.{Form, ItsPlace, keeps, bare, placed, named}
+use Rattle.spx_tree.specs.declared.expression.Expr.TheVariants.{outs-Number, outs-Name, outs-Parenthesized, outs-Prefix, outs-Infix, outs-InType, outs-InRange}
+use Rattle.spx_tree.specs.Form.{Form, ItsPlace, keeps, bare, placed}
+use Rattle.spx_tree.specs.Form.{named as named_form}
 use Rattle.spx_tree.specs.Goes.{Expected}
-use Rattle.spx_tree.specs.Written as written
-use Rattle.spx_tree.specs.Written.{annotation, written_at, sign_kind, operator_kind, second_word, written_operator, written_member, written_form, written_name, written_expr, parenthesized}
-use Rattle.spx_tree.specs.Grammar.{height, layer_of, layer_before, layer_in, rank, right_layer, operand_layer, HasOperator, FitsLeft, LeftFits, IsUpTo, Layered, OfLayer, IsExpr, IsCondition, IsPredicate}
+use Rattle.spx_tree.specs.Written.{annotation, written_at, sign_kind, operator_kind, second_word, written_operator, written_member, written_path, written_name, written_expr}
+use Rattle.spx_tree.specs.Grammar.{layer_of, layer_before, layer_in, rank, right_layer, operand_layer, FitsLeft, LeftFits, layers_of, IsName, OfLayer, IsExpr, IsCondition, IsPredicate}
+use Rattle.spx_tree.proofs.WrittenLevels.{written_expr_level, spelled_expr}
 use Rattle.spx_parse_body.specs.declared.expressions.Tall.{Tall}
+use Rattle.spx_parse_body.specs.declared.names.Parts.{Parts}
+use Rattle.spx_parse_body.specs.declared.names.TallName.{TallName}
+use Rattle.spx_parse_body.specs.declared.names.StepKind.{StepKind}
+use Rattle.spx_parse_body.specs.declared.names.StepKind.TheVariants as steps
 use Rattle.spx_cursor.specs.declared.operators.Chain.{Chain}
 use Rattle.spx_cursor.specs.declared.operators.Chain.TheVariants as chain
 use Rattle.spx_cursor.specs.declared.operators.Relator.{Relator}
 use Rattle.spx_cursor.specs.declared.operators.Relator.TheVariants as relators
-use Rattle.spx_cursor.specs.Reading.{Reader, refuse, peek, taking}
+use Rattle.spx_cursor.specs.Reading.{Reader, ◌>>◌, pure, refuse, peek, is_kind, sees, expect, taking}
 use Rattle.spx_cursor.specs.Operators.{sign_of, abs_or_not, power_of, relator_of, logical, connective_of, last_layer, short_circuit, goes_on, second, whole_by, whole_operator}
-use Rattle.spx_parse_body.specs.Expressions.{leaf, function_of, applied, enclosed, prefixed, joined, in_type, in_range, plain_name, name_by, name, literal, entry, in_parentheses, application, attribute_by, attribute, with_apostrophe_by, with_apostrophe, with_identifier_by, with_identifier, primary_by, primary, operated, joined_by, power_by, power, factor_by, factor, step_by, chain_step, chained, term, signed_by, signed, sum, type_by, member_by, member, inside, outside, relation_by, relation, combined, opening_by, opening, combination_by, combination, connection_by, connection, read, below, at_layer, expression, predicate, expression_at, predicate_after, simple_expression, expression_below, simple_expression_below, IsExprAt}
+use Rattle.spx_parse_body.specs.Expressions.{leaf, enclosed, prefixed, joined, in_type, in_range, plain_name, identifier_in, literal, no_parts, with_part, with_named, one_part, all_named, root_name, with_step, name_alone, step_of, in_parentheses, part_step, more_parts, association, named_part, named_step, more_named, positional, named, named_by, arguments_by, arguments, selection, application, qualification, attribute, quotation_by, quotation, entry, step_read, name_step_by, name_step, name_steps, tall_name, name_primary, primary_by, primary, operated, joined_by, power_by, power, factor_by, factor, step_by, chain_step, chained, term, signed_by, signed, sum, type_by, member_by, member, inside, outside, relation_by, relation, combined, opening_by, opening, combination_by, combination, connection_by, connection, read, below, at_layer, name, expression, predicate, expression_at, predicate_after, simple_expression, expression_below, simple_expression_below, IsExprAt}
+use Rattle.spx_parse_body.proofs.Callers.Heights.{tops, height, name_height, Layered, IsUpTo, IsPart, Is, enclosed_is, prefixed_is, infix_is, in_type_is, in_range_is, number_is, name_is, infix_has, of_layered, parts_within}
+use Rattle.spx_parse_body.proofs.Callers.Names.{spelled, IsTall, text_of, name_text, spelled_name, IsTallName, root_fit, step_text, step_fit, plain_is, alone_text, spelled_parts, spelled_named, spelled_association, IsParts, AreNamed, more_part_text, more_part_fit, first_part_text, first_part_fit, more_named_text, more_named_fit, first_named_text, first_named_fit, spelled_arguments, AreArguments, positional_fit, named_fit, one_fit}
 use Rattle.spx_parse_body.proofs.Callers.Lawful.{Ends, Any, Sees, Always, ends_here}
 use Rattle.spx_parse_body.proofs.Callers.Loops.{Shrinks}
-use Rattle.spx_parse_body.proofs.Callers.Good.{Good, no_level, Turn, Case, absent, present, good_before, good_bind, good_pure, good_refuse, good_given, good_fewer, good_weaken, good_expect, good_expect_place, good_identifier, good_choose, good_option, good_loop, shrinks, Starts, starts_bind, starts_expect, starts_identifier, starts_number, starts_open, starts_place}
+use Rattle.spx_parse_body.proofs.Callers.Shaped.{kind_self}
+use Rattle.spx_parse_body.proofs.Callers.Good.{Good, no_level, Turn, Case, absent, present, good_before, good_bind, good_pure, good_refuse, good_given, good_fewer, good_weaken, good_expect, good_expect_place, good_identifier, good_choose, good_option, good_as, good_then, good_loop, shrinks, Starts, starts_bind, starts_then, starts_given, starts_before, starts_fewer, starts_loop, starts_expect, starts_identifier, starts_number, starts_open, starts_place}
+use Rattle.spx_parse_body.proofs.Callers.Separated.{sees_kind, next_starts}
 use Rattle.spx_parse_body.proofs.Callers.Operators.{op_placed, sign_placed, sign_is, word_is, power_is, relator_is, connective_is, Opens, logical_is, Completes, short_circuit_is, chain_layer, chain_is, CanLead, leads, leads_again}
-
-abbrev pub spelled : Bool → Tall → List Form
-spelled marked m = written_expr marked m.expr
-
--- an expression of this layer within so many levels, beside its height
-pub record IsTall (levels : ℕ) (layer : Layer) (m : Tall) : Type 0 where
-  pub measured : m.height ≡ height m.expr
-  pub low : m.height ≤ levels
-  pub layered : Layered m.expr
-  pub of_layer : rank (layer_in m.expr) ≤ rank layer
 
 -- ---- what nodes are written with, and what they are
 
-enclosed_text : (marked : Bool) (place : Place) (inner : Expr) → written_expr marked (expr.Parenthesized place inner) ≡ placed marked k.LeftParenthesis place ∷ (written_expr marked inner ++ bare marked k.RightParenthesis ∷ [])
-unfolding hidden-the_row-Expr-0 hidden
-enclosed_text marked place inner = refl
+pub enclosed_text : (marked : Bool) (place : Place) (inner : Expr) → written_expr marked (expr.Parenthesized place inner) ≡ placed marked k.LeftParenthesis place ∷ (written_expr marked inner ++ bare marked k.RightParenthesis ∷ [])
+enclosed_text marked place inner = text_of marked (expr.Parenthesized place inner) (Expr-F.Parenthesized place inner) (outs-Parenthesized place inner)
 
-applied_text : (marked : Bool) (function : Function) (place : Place) (operand : Expr)
-    → written_expr marked (expr.Applied function place operand) ≡ named marked function.name ∷ (written_form marked function.form ++ (placed marked k.LeftParenthesis place ∷ (written_expr marked operand ++ bare marked k.RightParenthesis ∷ [])))
-unfolding hidden-the_row-Expr-0 hidden
-applied_text marked function place operand = refl
+pub prefixed_text : (marked : Bool) (o : PrefixOp) (place : Place) (operand : Expr) → written_expr marked (expr.Prefix o place operand) ≡ placed marked (sign_kind o) place ∷ written_expr marked operand
+prefixed_text marked o place operand = text_of marked (expr.Prefix o place operand) (Expr-F.Prefix o place operand) (outs-Prefix o place operand)
 
-prefixed_text : (marked : Bool) (o : PrefixOp) (place : Place) (operand : Expr) → written_expr marked (expr.Prefix o place operand) ≡ placed marked (sign_kind o) place ∷ written_expr marked operand
-unfolding hidden-the_row-Expr-0 hidden
-prefixed_text marked o place operand = refl
+pub infix_text : (marked : Bool) (o : InfixOp) (place : Place) (left right : Expr) → written_expr marked (expr.Infix o place left right) ≡ written_expr marked left ++ (written_operator marked o place ++ written_expr marked right)
+infix_text marked o place left right = text_of marked (expr.Infix o place left right) (Expr-F.Infix o place left right) (outs-Infix o place left right)
 
-infix_text : (marked : Bool) (o : InfixOp) (place : Place) (left right : Expr) → written_expr marked (expr.Infix o place left right) ≡ written_expr marked left ++ (written_operator marked o place ++ written_expr marked right)
-unfolding hidden-the_row-Expr-0 hidden
-infix_text marked o place left right = refl
+pub in_type_text : (marked : Bool) (o : MemberOp) (place : Place) (tested : Expr) (path : Path) (parts : List Expr)
+    → written_expr marked (expr.InType o place tested path parts) ≡ written_expr marked tested ++ (written_member marked o place ++ written_path marked path (map (written_expr marked) parts))
+in_type_text marked o place tested path parts = text_of marked (expr.InType o place tested path parts) (Expr-F.InType o place tested path parts) (outs-InType o place tested path parts)
 
-in_type_text : (marked : Bool) (o : MemberOp) (place : Place) (tested : Expr) (type_name : Name) → written_expr marked (expr.InType o place tested type_name) ≡ written_expr marked tested ++ (written_member marked o place ++ written_name marked type_name)
-unfolding hidden-the_row-Expr-0 hidden
-in_type_text marked o place tested type_name = refl
-
-in_range_text : (marked : Bool) (o : MemberOp) (place : Place) (tested low high : Expr)
+pub in_range_text : (marked : Bool) (o : MemberOp) (place : Place) (tested low high : Expr)
     → written_expr marked (expr.InRange o place tested low high) ≡ written_expr marked tested ++ (written_member marked o place ++ (written_expr marked low ++ bare marked k.DoubleDot ∷ written_expr marked high))
-unfolding hidden-the_row-Expr-0 hidden
-in_range_text marked o place tested low high = refl
-
-infix_has : (o : InfixOp) (place : Place) (left right : Expr) → HasOperator o (expr.Infix o place left right)
-unfolding hidden-the_row-Expr-0 hidden
-infix_has o place left right = refl
-
--- an expression of this layer, with its height
-record Is (e : Expr) (high : ℕ) (layer : Layer) : Type 0 where
-  measured : high ≡ height e
-  layered : Layered e
-  layer_is : layer_in e ≡ layer
-
-enclosed_is : (place : Place) (inner : Expr) → Layered inner → Is (expr.Parenthesized place inner) (height inner + 1) layer.Primary
-unfolding hidden-the_row-Expr-0 hidden
-enclosed_is place inner l = record { measured = refl; layered = l; layer_is = refl }
-
-applied_is : (function : Function) (place : Place) (operand : Expr) → Layered operand → IsUpTo layer.Expression operand → Is (expr.Applied function place operand) (height operand + 1) layer.Primary
-unfolding hidden-the_row-Expr-0 hidden
-applied_is function place operand l r = record { measured = refl; layered = (l, r); layer_is = refl }
-
-prefixed_is : (o : PrefixOp) (place : Place) (operand : Expr) → Layered operand → IsUpTo (operand_layer o) operand → Is (expr.Prefix o place operand) (height operand + 1) (layer_before o)
-unfolding hidden-the_row-Expr-0 hidden
-prefixed_is o place operand l r = record { measured = refl; layered = (l, r); layer_is = refl }
-
-infix_is : (o : InfixOp) (place : Place) (left right : Expr) → Layered left → Layered right → LeftFits o left → IsUpTo (right_layer (layer_of o)) right → Is (expr.Infix o place left right) (max (height left) (height right) + 1) (layer_of o)
-unfolding hidden-the_row-Expr-0 hidden
-infix_is o place left right l r f g = record { measured = refl; layered = (l, r, f, g); layer_is = refl }
-
-in_type_is : (o : MemberOp) (place : Place) (tested : Expr) (type_name : Name) → Layered tested → IsUpTo layer.Sum tested → Is (expr.InType o place tested type_name) (height tested + 1) layer.Relation
-unfolding hidden-the_row-Expr-0 hidden
-in_type_is o place tested type_name l r = record { measured = refl; layered = (l, r); layer_is = refl }
-
-in_range_is : (o : MemberOp) (place : Place) (tested low high : Expr) → Layered tested → IsUpTo layer.Sum tested → Layered low → IsUpTo layer.Sum low → Layered high → IsUpTo layer.Sum high
-    → Is (expr.InRange o place tested low high) (max (height tested) (max (height low) (height high)) + 1) layer.Relation
-unfolding hidden-the_row-Expr-0 hidden
-in_range_is o place tested low high a b c d e f = record { measured = refl; layered = (a, b, c, d, e, f); layer_is = refl }
+in_range_text marked o place tested low high = text_of marked (expr.InRange o place tested low high) (Expr-F.InRange o place tested low high) (outs-InRange o place tested low high)
 
 tall_is : (levels high : ℕ) (layer : Layer) (m : Tall) → Is m.expr high layer → m.height ≡ high → high ≤ levels → IsTall levels layer m
 tall_is levels high layer m i same low = record { measured = same ∙ i.measured; low = omega arith; layered = i.layered; of_layer = let e = ap rank i.layer_is in omega arith }
@@ -117,16 +73,9 @@ tall_is levels high layer m i same low = record { measured = same ∙ i.measured
 to_layer : (levels : ℕ) (a b : Layer) (m : Tall) → rank a ≤ rank b → IsTall levels a m → IsTall levels b m
 to_layer levels a b m h is = record { measured = is.measured; low = is.low; layered = is.layered; of_layer = let r = is.of_layer in omega arith }
 
-is_leaf : (levels : ℕ) (e : Expr) → height e ≡ 0 → Layered e → rank (layer_in e) ≡ 0 → IsTall levels layer.Primary (leaf e)
-is_leaf levels e h l r = record { measured = sym h; low = omega arith; layered = l; of_layer = omega arith }
-
 module _ (levels : ℕ) (some : 0 < levels) (place : Place) where
   enclosed_fit : (inner : Tall) → IsTall (levels - 1) layer.Predicate inner → IsTall levels layer.Primary (enclosed place inner)
   enclosed_fit inner i = tall_is levels (height inner.expr + 1) layer.Primary (enclosed place inner) (enclosed_is place inner.expr i.layered) (ap (λ (h : ℕ). h + 1) i.measured) (let b = i.low in let m = i.measured in omega arith)
-
-  applied_fit : (function : Function) (operand : Tall) → IsTall (levels - 1) layer.Expression operand → IsTall levels layer.Primary (applied function place operand)
-  applied_fit function operand i =
-      tall_is levels (height operand.expr + 1) layer.Primary (applied function place operand) (applied_is function place operand.expr i.layered i.of_layer) (ap (λ (h : ℕ). h + 1) i.measured) (let b = i.low in let m = i.measured in omega arith)
 
   prefixed_fit : (o : PrefixOp) (operand : Tall) → IsTall (levels - 1) (operand_layer o) operand → IsTall levels (layer_before o) (prefixed o place operand)
   prefixed_fit o operand i =
@@ -140,11 +89,13 @@ module _ (levels : ℕ) (place : Place) (a : Layer) (left : Tall) (l : IsTall le
       let b = r.low in
       tall_is levels (max (height left.expr) (height right.expr) + 1) (layer_of o) (joined o place left right) (infix_is o place left.expr right.expr l.layered r.layered f r.of_layer) (ap₂ (λ (x y : ℕ). max x y + 1) m n) (omega arith)
 
-  in_type_fit : (o : MemberOp) (type_name : Name) → rank a ≤ 3 → IsTall levels layer.Relation (in_type o place left type_name)
-  in_type_fit o type_name of =
+  in_type_fit : (o : MemberOp) (low : Tall) (n : Name) → rank a ≤ 3 → low.expr ≡ expr.Name n.path n.parts → IsTall (levels - 1) layer.Sum low → IsTall levels layer.Relation (in_type o place left n low.height)
+  in_type_fit o low n of same i =
       let m = l.measured in
       let r = l.of_layer in
-      tall_is levels (height left.expr + 1) layer.Relation (in_type o place left type_name) (in_type_is o place left.expr type_name l.layered (omega arith)) (ap (λ (h : ℕ). h + 1) m) (omega arith)
+      let b = i.low in
+      let h = i.measured ∙ ap height same ∙ name_height n.path n.parts in
+      tall_is levels (max (height left.expr) (tops (map height n.parts)) + 1) layer.Relation (in_type o place left n low.height) (in_type_is o place left.expr n.path n.parts l.layered (omega arith) (subst Layered same i.layered)) (ap₂ (λ (x y : ℕ). max x y + 1) m h) (omega arith)
 
   in_range_fit : (o : MemberOp) (low high : Tall) → rank a ≤ 3 → IsTall (levels - 1) layer.Sum low → IsTall (levels - 1) layer.Sum high → IsTall levels layer.Relation (in_range o place left low high)
   in_range_fit o low high of i j =
@@ -157,40 +108,12 @@ module _ (levels : ℕ) (place : Place) (a : Layer) (left : Tall) (l : IsTall le
       tall_is levels (max (height left.expr) (max (height low.expr) (height high.expr)) + 1) layer.Relation (in_range o place left low high)
       (in_range_is o place left.expr low.expr high.expr l.layered (omega arith) i.layered i.of_layer j.layered j.of_layer) (ap (λ (x : ℕ). max x (max low.height high.height) + 1) m ∙ ap₂ (λ (x y : ℕ). max (height left.expr) (max x y) + 1) n p) (omega arith)
 
--- what stands before the operand of a function
-abbrev written_function : Bool → Function → List Form
-written_function marked function = named marked function.name ∷ written_form marked function.form
-
--- the text of a function and its operand, as it is read
-application_text : (marked : Bool) (function : Function) (place : Place) (operand : Tall)
-    → ((written_function marked function ++ placed marked k.LeftParenthesis place ∷ []) ++ spelled marked operand) ++ bare marked k.RightParenthesis ∷ [] ≡ spelled marked (applied function place operand)
-application_text marked function place operand = let e = applied_text marked function place operand.expr in simp (append_assoc, e)
-
 -- the text of an operation, as it is read
 joined_text : (marked : Bool) (o : InfixOp) (kind : Kind) (place : Place) (left right : Tall) → kind ≡ operator_kind o
     → ((spelled marked left ++ placed marked kind place ∷ []) ++ second_word marked o) ++ spelled marked right ≡ spelled marked (joined o place left right)
 joined_text marked o kind place left right same =
     ap (λ (j : Kind). ((spelled marked left ++ placed marked j place ∷ []) ++ second_word marked o) ++ spelled marked right) same
     ∙ (let e = infix_text marked o place left.expr right.expr in simp (append_assoc, e))
-
--- ---- names
-
-name_case : {L P : Type 0} (marked : Bool) (prefix : Identifier) (kind : Option Kind) → Case L P (written_name marked) Always (named marked prefix ∷ []) (Sees (peek marked) kind) (Simple prefix) (name_by marked prefix kind) (name_by marked prefix kind)
-name_case marked prefix (Some k.Apostrophe) =
-    present (starts_bind (starts_expect marked k.Apostrophe (λ fs here. here) refl) (λ u.
-    good_bind (good_identifier marked) (λ designator. good_pure (Attribute prefix designator) (λ l w. refl) (λ l w. tt))))
-name_case marked prefix _ = absent refl refl (λ l w. refl) (λ l w. tt)
-
-following_identifier : {L P : Type 0} (marked : Bool) (prefix : Identifier) → Good L P (written_name marked) Always (named marked prefix ∷ []) Any (λ fs. name_by marked prefix (peek marked fs) fs) (λ fs. name_by marked prefix (peek marked fs) fs)
-following_identifier marked prefix = good_option (peek marked) (λ t xs ys. refl) (Simple prefix) (name_by marked prefix) (name_by marked prefix) refl refl (name_case marked prefix)
-
-pub name_starts : {L P : Type 0} {on : List Form → Type 0} (marked : Bool) → ((fs : List Form) → on fs → peek marked fs ≡ Some k.Identifier) → Starts L P (written_name marked) Always [] on (name marked) (name marked)
-unfolding name
-name_starts marked seen = starts_bind (starts_identifier marked seen) (following_identifier marked)
-
-pub name_good : {L P : Type 0} (marked : Bool) → Good L P (written_name marked) Always [] Any (name marked) (name marked)
-unfolding name
-name_good marked = good_bind (good_identifier marked) (following_identifier marked)
 
 -- ---- second words
 
@@ -246,22 +169,12 @@ abbrev Opened : ℕ → Tall → Option InfixOp → Type 0
 Opened levels m None = IsTall levels layer.Expression m
 Opened levels m (Some o) = IsLeft levels (chain.Logical o) m
 
-plain_is : (e : Expr) (n : Name) → plain_name e ≡ Some n → e ≡ expr.Name n
-plain_is (expr.Name m) n e = cc
-plain_is (expr.Number value place) n e = absurd cc
-plain_is (expr.Entry identifier) n e = absurd cc
-plain_is (written.applied function place operand) n e = absurd cc
-plain_is (parenthesized place inner) n e = absurd cc
-plain_is (written.signed o place operand) n e = absurd cc
-plain_is (written.operation o place left right) n e = absurd cc
-plain_is (written.in_type o place tested type_name) n e = absurd cc
-plain_is (written.in_range o place tested low high) n e = absurd cc
-
 -- What reads one level down, at a number of levels and at the next.
 module _ (marked : Bool) (below below' : Layer → Reader Tall) (levels : ℕ) (good : (layer : Layer) → Good (0 < levels) ⊤ (spelled marked) (IsTall (levels - 1) layer) [] Any (below layer) (below' layer)) where
   literal_starts : {L P : Type 0} {on : List Form → Type 0} → ((fs : List Form) → on fs → peek marked fs ≡ Some k.Number) → Starts L P (spelled marked) (IsTall levels layer.Primary) [] on (literal marked) (literal marked)
   unfolding literal
-  literal_starts seen = starts_bind (starts_number marked seen) (λ v. good_pure (leaf (expr.Number v.0 v.1)) (λ l w. refl) (λ l w. is_leaf levels (expr.Number v.0 v.1) refl tt refl))
+  literal_starts seen = starts_bind (starts_number marked seen) (λ v.
+      good_pure (leaf (expr.Number v.0 v.1)) (λ l w. sym (text_of marked (expr.Number v.0 v.1) (Expr-F.Number v.0 v.1) (outs-Number v.0 v.1))) (λ l w. tall_is levels 0 layer.Primary (leaf (expr.Number v.0 v.1)) (number_is v.0 v.1) refl (omega arith)))
 
   primary_ends : Ends (spelled marked) (IsTall levels layer.Primary) []
   primary_ends = ((literal_starts {L = ⊤} {P = ⊤} {on = λ fs. peek marked fs ≡ Some k.Number} (λ fs here. here)).good.law tt tt).ends
@@ -277,73 +190,221 @@ module _ (marked : Bool) (below below' : Layer → Reader Tall) (levels : ℕ) (
       good_bind (good_expect marked k.RightParenthesis) (λ u.
       good_pure (enclosed place inner) (λ l w. sym (enclosed_text marked place inner.expr)) (λ l w. enclosed_fit levels l place inner w.0.1))))
 
-  -- ---- what an identifier begins
+  -- ---- arguments
 
-  abbrev named_as : Name → Tall
-  named_as n = leaf (expr.Name n)
+  comma_starts : {P A : Type 0} (spell : A → List Form) (fits : A → Type 0) {p p' : Reader A} → Good (0 < levels) ⊤ spell fits [] Any p p'
+      → Starts (0 < levels) P (λ x. bare marked k.Comma ∷ spell x) fits [] (Sees (sees marked k.Comma) true) (expect marked k.Comma >> p) (expect marked k.Comma >> p')
+  comma_starts spell fits g = next_starts spell fits marked k.Comma (sees marked k.Comma) (λ t xs ys. refl) refl (sees_kind marked k.Comma) refl g
 
-  named_fit : (n : Name) → IsTall levels layer.Primary (named_as n)
-  named_fit n = is_leaf levels (expr.Name n) refl tt refl
+  parts_turn : (P : Type 0) (parts : Parts) (b : Bool) → Turn (0 < levels) P (spelled_parts marked) (IsParts levels) parts (Sees (sees marked k.Comma) b) (part_step marked below levels parts b) (part_step marked below' (suc levels) parts b)
+  parts_turn P parts false = tt
+  parts_turn P parts true =
+      starts_bind (comma_starts (spelled marked) (IsTall (levels - 1) layer.Expression) (good layer.Expression)) (λ t.
+      good_pure (with_part parts t) (λ l w. more_part_text marked levels parts t w.0.1) (λ l w. more_part_fit levels l parts t w.0.1 w.1))
 
-  -- where what stands before the operand begins a text
-  application_starts : {L P : Type 0} {on : List Form → Type 0} (function : Function) → ((fs : List Form) → on fs → peek marked fs ≡ Some k.LeftParenthesis) → Ends (spelled marked) (IsTall levels layer.Primary) (written_function marked function)
-      → Starts L P (spelled marked) (IsTall levels layer.Primary) (written_function marked function) on (application marked below levels function) (application marked below' (suc levels) function)
-  unfolding application
-  application_starts function seen ends =
-      starts_open marked k.LeftParenthesis seen levels 0 refl (λ w. omega arith) (λ w. ends) (λ place.
-      good_bind (good_given (λ l. l) (λ l w. tt) (good layer.Expression)) (λ operand.
-      good_bind (good_expect marked k.RightParenthesis) (λ u.
-      good_pure (applied function place operand) (λ l w. application_text marked function place operand) (λ l w. applied_fit levels l place function operand w.0.1))))
+  parts_good : {P : Type 0} (parts : Parts) → Good (0 < levels) (P × IsParts levels parts) (spelled_parts marked) (IsParts levels) (spelled_parts marked parts) Any (more_parts marked below levels parts) (more_parts marked below' (suc levels) parts)
+  unfolding more_parts
+  parts_good {P} parts =
+      good_loop (0 < levels) P (spelled_parts marked) (IsParts levels) (sees marked k.Comma) (λ t xs ys. refl) (part_step marked below levels) (part_step marked below' (suc levels)) (λ s. refl) (λ s. refl) (parts_turn P) parts
 
-  attribute_case : {L P : Type 0} (prefix designator : Identifier) (kind : Option Kind)
-      → Case L P (spelled marked) (IsTall levels layer.Primary) (spelled marked (named_as (Attribute prefix designator))) (Sees (peek marked) kind) (named_as (Attribute prefix designator)) (attribute_by marked below levels prefix designator kind) (attribute_by marked below' (suc levels) prefix designator kind)
-  attribute_case prefix designator (Some k.LeftParenthesis) =
-      present (application_starts (function_of prefix (forms.Attribute designator)) (λ fs here. here) (ends_here (spelled marked) (IsTall levels layer.Primary) (named_as (Attribute prefix designator)) (named_fit (Attribute prefix designator))))
-  attribute_case prefix designator _ = absent refl refl (λ l w. refl) (λ l w. named_fit (Attribute prefix designator))
+  pub parts_shrinks : 0 < levels → Shrinks (sees marked k.Comma) (part_step marked below levels)
+  parts_shrinks some =
+      shrinks (0 < levels) ⊤ (spelled_parts marked) (IsParts levels) (sees marked k.Comma) (λ t xs ys. refl) (part_step marked below levels) (part_step marked below' (suc levels)) (λ s. refl) (λ s. refl) (parts_turn ⊤) some
 
-  attribute_good : {L P : Type 0} (prefix : Identifier) → Good L P (spelled marked) (IsTall levels layer.Primary) (named marked prefix ∷ bare marked k.Apostrophe ∷ []) Any (attribute marked below levels prefix) (attribute marked below' (suc levels) prefix)
-  unfolding attribute
-  attribute_good prefix =
-      good_bind (good_identifier marked) (λ designator.
-      good_option (peek marked) (λ t xs ys. refl) (named_as (Attribute prefix designator)) (attribute_by marked below levels prefix designator) (attribute_by marked below' (suc levels) prefix designator) refl refl (attribute_case prefix designator))
+  -- a comma comes next
+  comma_seen : (fs : List Form) → peek marked fs ≡ Some k.Comma → sees marked k.Comma fs ≡ true
+  comma_seen fs here = ap (is_kind k.Comma) here ∙ kind_self k.Comma
 
-  -- an attribute goes on with an apostrophe
-  with_apostrophe_ends : (prefix : Identifier) → Ends (spelled marked) (IsTall levels layer.Primary) (named marked prefix ∷ bare marked k.Apostrophe ∷ [])
-  with_apostrophe_ends prefix = record { more = named marked prefix ∷ []; value = named_as (Attribute prefix prefix); text = refl; fit = named_fit (Attribute prefix prefix) }
+  parts_starts : {P : Type 0} (parts : Parts) → Starts (0 < levels) (P × IsParts levels parts) (spelled_parts marked) (IsParts levels) (spelled_parts marked parts) (Sees (peek marked) (Some k.Comma)) (more_parts marked below levels parts) (more_parts marked below' (suc levels) parts)
+  unfolding more_parts
+  parts_starts {P} parts =
+      starts_fewer comma_seen
+      (starts_loop (0 < levels) P (spelled_parts marked) (IsParts levels) (sees marked k.Comma) (λ t xs ys. refl) (part_step marked below levels) (part_step marked below' (suc levels)) (λ s. refl) (λ s. refl) (parts_turn P) parts true _ _ refl refl)
 
-  with_apostrophe_case : {L P : Type 0} (prefix : Identifier) (kind : Option Kind)
-      → Good L P (spelled marked) (IsTall levels layer.Primary) (named marked prefix ∷ bare marked k.Apostrophe ∷ []) (Sees (peek marked) kind) (with_apostrophe_by marked below levels prefix kind) (with_apostrophe_by marked below' (suc levels) prefix kind)
-  with_apostrophe_case prefix (Some k.LeftParenthesis) = (application_starts (function_of prefix forms.Qualified) (λ fs here. here) (with_apostrophe_ends prefix)).good
-  with_apostrophe_case prefix _ = good_fewer (λ fs here. tt) (attribute_good prefix)
+  association_good : {P : Type 0} → Good (0 < levels) P (λ t. bare marked k.Arrow ∷ spelled marked t) (IsTall (levels - 1) layer.Expression) [] Any (association marked below levels) (association marked below' (suc levels))
+  unfolding association
+  association_good = good_bind (good_expect marked k.Arrow) (λ u. good_as (λ l w t f. (refl, f)) (good_given (λ l. l) (λ l w. tt) (good layer.Expression)))
 
-  with_apostrophe_starts : {L P : Type 0} {on : List Form → Type 0} (prefix : Identifier) → ((fs : List Form) → on fs → peek marked fs ≡ Some k.Apostrophe)
-      → Starts L P (spelled marked) (IsTall levels layer.Primary) (named marked prefix ∷ []) on (with_apostrophe marked below levels prefix) (with_apostrophe marked below' (suc levels) prefix)
-  unfolding with_apostrophe attribute taking
-  with_apostrophe_starts prefix seen =
-      starts_bind (starts_expect marked k.Apostrophe seen refl) (λ u.
-      good_choose (peek marked) (λ t xs ys. refl) (with_apostrophe_by marked below levels prefix) (with_apostrophe_by marked below' (suc levels) prefix) refl refl (with_apostrophe_case prefix))
+  association_starts : {P : Type 0} {on : List Form → Type 0} → ((fs : List Form) → on fs → peek marked fs ≡ Some k.Arrow)
+      → Starts (0 < levels) P (λ t. bare marked k.Arrow ∷ spelled marked t) (IsTall (levels - 1) layer.Expression) [] on (association marked below levels) (association marked below' (suc levels))
+  unfolding association
+  association_starts seen = starts_bind (starts_expect marked k.Arrow seen refl) (λ u. good_as (λ l w t f. (refl, f)) (good_given (λ l. l) (λ l w. tt) (good layer.Expression)))
 
-  entry_starts : {L P : Type 0} {on : List Form → Type 0} (prefix : Identifier) → ((fs : List Form) → on fs → peek marked fs ≡ Some k.Tilde) → Starts L P (spelled marked) (IsTall levels layer.Primary) (named marked prefix ∷ []) on (entry marked prefix) (entry marked prefix)
+  -- an association within so many levels
+  abbrev IsAssociation : Identifier × Tall → Type 0
+  IsAssociation x = IsTall (levels - 1) layer.Expression x.1
+
+  named_part_good : Good (0 < levels) ⊤ (spelled_association marked) IsAssociation [] Any (named_part marked below levels) (named_part marked below' (suc levels))
+  unfolding named_part
+  named_part_good = good_bind (good_identifier marked) (λ name. good_bind association_good (λ t. good_pure (name, t) (λ l w. refl) (λ l w. w.1)))
+
+  named_turn : (P : Type 0) (parts : Parts) (b : Bool) → Turn (0 < levels) P (spelled_named marked) (AreNamed levels) parts (Sees (sees marked k.Comma) b) (named_step marked below levels parts b) (named_step marked below' (suc levels) parts b)
+  named_turn P parts false = tt
+  named_turn P parts true =
+      starts_bind (comma_starts (spelled_association marked) IsAssociation named_part_good) (λ x.
+      good_pure (with_named parts x) (λ l w. more_named_text marked levels parts x w.0.1) (λ l w. more_named_fit levels l parts x w.0.1 w.1))
+
+  all_named_good : {P : Type 0} (parts : Parts) → Good (0 < levels) (P × AreNamed levels parts) (spelled_named marked) (AreNamed levels) (spelled_named marked parts) Any (more_named marked below levels parts) (more_named marked below' (suc levels) parts)
+  unfolding more_named
+  all_named_good {P} parts =
+      good_loop (0 < levels) P (spelled_named marked) (AreNamed levels) (sees marked k.Comma) (λ t xs ys. refl) (named_step marked below levels) (named_step marked below' (suc levels)) (λ s. refl) (λ s. refl) (named_turn P) parts
+
+  pub named_shrinks : 0 < levels → Shrinks (sees marked k.Comma) (named_step marked below levels)
+  named_shrinks some =
+      shrinks (0 < levels) ⊤ (spelled_named marked) (AreNamed levels) (sees marked k.Comma) (λ t xs ys. refl) (named_step marked below levels) (named_step marked below' (suc levels)) (λ s. refl) (λ s. refl) (named_turn ⊤) some
+
+  positional_starts : {P : Type 0} (first : Tall) → Starts (0 < levels) (P × IsTall (levels - 1) layer.Expression first) (spelled_arguments marked) (AreArguments levels) (spelled marked first) (Sees (peek marked) (Some k.Comma)) (positional marked below levels first) (positional marked below' (suc levels) first)
+  unfolding positional
+  positional_starts {P} first =
+      starts_before (sym (first_part_text marked first))
+      (starts_then (starts_given (λ l w. (w.0, first_part_fit levels l first w.1)) (parts_starts {P = P} (with_part no_parts first))) (λ parts.
+      good_pure (arguments_as.Positional (length parts.exprs), parts) (λ l w. refl) (λ l w. positional_fit levels parts w.1)))
+
+  named_starts : {P : Type 0} (name : Identifier) → Starts (0 < levels) P (spelled_arguments marked) (AreArguments levels) (named_form marked name ∷ []) (Sees (peek marked) (Some k.Arrow)) (named marked below levels name) (named marked below' (suc levels) name)
+  unfolding named
+  named_starts {P} name =
+      starts_bind (association_starts (λ fs here. here)) (λ t.
+      good_before (sym (first_named_text marked name t))
+      (good_then (good_given (λ l. l) (λ l w. (w, first_named_fit levels l name t w.1)) (all_named_good (with_named no_parts (name, t)))) (λ parts.
+      good_pure (all_named parts) (λ l w. refl) (λ l w. named_fit levels parts w.1))))
+
+  abbrev IsFirst : Tall → Type 0
+  IsFirst first = IsTall (levels - 1) layer.Expression first
+
+  one_case : {P : Type 0} {on : List Form → Type 0} (first : Tall) {p p' : Reader (Arguments × Parts)} → p ≡ pure (one_part first) → p' ≡ pure (one_part first)
+      → Case (0 < levels) (P × IsFirst first) (spelled_arguments marked) (AreArguments levels) (spelled marked first) on (one_part first) p p'
+  one_case first e e' = absent e e' (λ l w. first_part_text marked first) (λ l w. one_fit levels l first w.1)
+
+  formal_case : {P : Type 0} (first : Tall) (name : Option Identifier) → identifier_in first.expr ≡ name
+      → Case (0 < levels) (P × IsFirst first) (spelled_arguments marked) (AreArguments levels) (spelled marked first) (Sees (peek marked) (Some k.Arrow)) (one_part first) (named_by marked below levels first name) (named_by marked below' (suc levels) first name)
+  formal_case first None e = one_case first refl refl
+  formal_case first (Some name) e = present (starts_before (sym (alone_text marked first.expr name e)) (named_starts name))
+
+  arguments_case : {P : Type 0} (first : Tall) (kind : Option Kind)
+      → Case (0 < levels) (P × IsFirst first) (spelled_arguments marked) (AreArguments levels) (spelled marked first) (Sees (peek marked) kind) (one_part first) (arguments_by marked below levels first kind) (arguments_by marked below' (suc levels) first kind)
+  arguments_case first (Some k.Arrow) = formal_case first (identifier_in first.expr) refl
+  arguments_case first (Some k.Comma) = present (positional_starts first)
+  arguments_case first _ = one_case first refl refl
+
+  arguments_good : {P : Type 0} → Good (0 < levels) P (spelled_arguments marked) (AreArguments levels) [] Any (arguments marked below levels) (arguments marked below' (suc levels))
+  unfolding arguments
+  arguments_good =
+      good_bind (good_given (λ l. l) (λ l w. tt) (good layer.Expression)) (λ first.
+      good_option (peek marked) (λ t xs ys. refl) (one_part first) (arguments_by marked below levels first) (arguments_by marked below' (suc levels) first) refl refl (arguments_case first))
+
+  -- ---- names
+
+  -- what is read after a name
+  abbrev Reads : (L P : Type 0) → TallName → (List Form → Type 0) → Reader TallName → Reader TallName → Type 0
+  Reads L P n on p p' = Starts L (P × IsTallName levels n) (spelled_name marked) (IsTallName levels) (spelled_name marked n) on p p'
+
+  abbrev NameEnds : List Form → Type 0
+  NameEnds before = Ends (spelled_name marked) (IsTallName levels) before
+
+  selection_starts : {L P : Type 0} {on : List Form → Type 0} (n : TallName) → ((fs : List Form) → on fs → peek marked fs ≡ Some k.Dot) → Reads L P n on (selection marked below levels n) (selection marked below' (suc levels) n)
+  unfolding selection
+  selection_starts n seen =
+      starts_bind (starts_expect marked k.Dot seen refl) (λ u. good_bind (good_identifier marked) (λ selector.
+      good_pure (with_step (step.Selected selector) [] 0 n) (λ l w. append_assoc (spelled_name marked n) (bare marked k.Dot ∷ []) (named_form marked selector ∷ []) ∙ step_text marked levels n (step.Selected selector) [] 0 w.0.0.1 tt)
+      (λ l w. step_fit levels n (step.Selected selector) [] 0 w.0.0.1 tt tt refl (omega arith))))
+
+  entry_starts : {L P : Type 0} {on : List Form → Type 0} (n : TallName) → ((fs : List Form) → on fs → peek marked fs ≡ Some k.Tilde) → Reads L P n on (entry marked below levels n) (entry marked below' (suc levels) n)
   unfolding entry
-  entry_starts prefix seen = starts_bind (starts_expect marked k.Tilde seen refl) (λ u. good_pure (leaf (expr.Entry prefix)) (λ l w. refl) (λ l w. is_leaf levels (expr.Entry prefix) refl tt refl))
+  entry_starts n seen =
+      starts_bind (starts_expect marked k.Tilde seen refl) (λ u.
+      good_pure (with_step step.Entry [] 0 n) (λ l w. step_text marked levels n step.Entry [] 0 w.0.1 tt) (λ l w. step_fit levels n step.Entry [] 0 w.0.1 tt tt refl (omega arith)))
 
-  with_identifier_case : {L P : Type 0} (prefix : Identifier) (kind : Option Kind)
-      → Case L P (spelled marked) (IsTall levels layer.Primary) (named marked prefix ∷ []) (Sees (peek marked) kind) (named_as (Simple prefix)) (with_identifier_by marked below levels prefix kind) (with_identifier_by marked below' (suc levels) prefix kind)
-  with_identifier_case prefix (Some k.Apostrophe) = present (with_apostrophe_starts prefix (λ fs here. here))
-  with_identifier_case prefix (Some k.LeftParenthesis) =
-      present (application_starts (function_of prefix forms.Simple) (λ fs here. here) (ends_here (spelled marked) (IsTall levels layer.Primary) (named_as (Simple prefix)) (named_fit (Simple prefix))))
-  with_identifier_case prefix (Some k.Tilde) = present (entry_starts prefix (λ fs here. here))
-  with_identifier_case prefix _ = absent refl refl (λ l w. refl) (λ l w. named_fit (Simple prefix))
+  application_starts : {L P : Type 0} {on : List Form → Type 0} (n : TallName) → ((fs : List Form) → on fs → peek marked fs ≡ Some k.LeftParenthesis) → Reads L P n on (application marked below levels n) (application marked below' (suc levels) n)
+  unfolding application
+  application_starts n seen =
+      starts_open marked k.LeftParenthesis seen levels 0 refl (λ w. omega arith) (λ w. ends_here (spelled_name marked) (IsTallName levels) n w.1) (λ place.
+      good_bind arguments_good (λ x. good_bind (good_expect marked k.RightParenthesis) (λ u.
+      good_pure (with_step (step.Applied place x.0) x.1.exprs x.1.height n)
+      (λ l w. flat (spelled_name marked n) (placed marked k.LeftParenthesis place ∷ []) (spelled_arguments marked x) (bare marked k.RightParenthesis ∷ []) ∙ step_text marked levels n (step.Applied place x.0) x.1.exprs x.1.height w.0.0.0.1 (w.0.1.parts place))
+      (λ l w. step_fit levels n (step.Applied place x.0) x.1.exprs x.1.height w.0.0.0.1 (w.0.1.formed place) (w.0.1.parts place) w.0.1.measured w.0.1.low))))
+    where
+      flat : (a b c d : List Form) → ((a ++ b) ++ c) ++ d ≡ a ++ (b ++ (c ++ d))
+      flat a b c d = simp append_assoc
 
-  with_identifier_starts : {L P : Type 0} {on : List Form → Type 0} → ((fs : List Form) → on fs → peek marked fs ≡ Some k.Identifier) → Starts L P (spelled marked) (IsTall levels layer.Primary) [] on (with_identifier marked below levels) (with_identifier marked below' (suc levels))
-  unfolding with_identifier
-  with_identifier_starts seen =
-      starts_bind (starts_identifier marked seen) (λ prefix.
-      good_option (peek marked) (λ t xs ys. refl) (named_as (Simple prefix)) (with_identifier_by marked below levels prefix) (with_identifier_by marked below' (suc levels) prefix) refl refl (with_identifier_case prefix))
+  -- a name and an apostrophe go on with an attribute
+  quoted_ends : (n : TallName) → IsTallName levels n → NameEnds (spelled_name marked n ++ bare marked k.Apostrophe ∷ [])
+  quoted_ends n f = record {
+    more = named_form marked n.path.root ∷ [];
+    value = with_step (step.Attribute n.path.root) [] 0 n;
+    text = append_assoc (spelled_name marked n) (bare marked k.Apostrophe ∷ []) (named_form marked n.path.root ∷ []) ∙ step_text marked levels n (step.Attribute n.path.root) [] 0 f tt;
+    fit = step_fit levels n (step.Attribute n.path.root) [] 0 f tt tt refl (omega arith);
+  }
+
+  qualification_starts : {L P : Type 0} {on : List Form → Type 0} (n : TallName) → ((fs : List Form) → on fs → peek marked fs ≡ Some k.LeftParenthesis)
+      → Starts L (P × IsTallName levels n) (spelled_name marked) (IsTallName levels) (spelled_name marked n ++ bare marked k.Apostrophe ∷ []) on (qualification marked below levels n) (qualification marked below' (suc levels) n)
+  unfolding qualification
+  qualification_starts n seen =
+      starts_open marked k.LeftParenthesis seen levels 0 refl (λ w. omega arith) (λ w. quoted_ends n w.1) (λ place.
+      good_bind (good_given (λ l. l) (λ l w. tt) (good layer.Expression)) (λ t. good_bind (good_expect marked k.RightParenthesis) (λ u.
+      good_pure (with_step (step.Qualified place) (t.expr ∷ []) (t.height + 1) n)
+      (λ l w. flat (spelled_name marked n) (bare marked k.Apostrophe ∷ []) (placed marked k.LeftParenthesis place ∷ []) (spelled marked t) (bare marked k.RightParenthesis ∷ [])
+      ∙ step_text marked levels n (step.Qualified place) (t.expr ∷ []) (t.height + 1) w.0.0.0.1 ((w.0.1.layered, w.0.1.of_layer), tt))
+      (λ l w. let m = w.0.1.measured in let b = w.0.1.low in step_fit levels n (step.Qualified place) (t.expr ∷ []) (t.height + 1) w.0.0.0.1 tt ((w.0.1.layered, w.0.1.of_layer), tt) (omega arith) (omega arith)))))
+    where
+      flat : (a b c d e : List Form) → (((a ++ b) ++ c) ++ d) ++ e ≡ a ++ (b ++ (c ++ ((d ++ []) ++ e)))
+      flat a b c d e = ap (λ (x : List Form). (((a ++ b) ++ c) ++ x) ++ e) (sym (append-nil d)) ∙ simp append_assoc
+
+  attribute_good : {L P : Type 0} (n : TallName) → Good L (P × IsTallName levels n) (spelled_name marked) (IsTallName levels) (spelled_name marked n ++ bare marked k.Apostrophe ∷ []) Any (attribute marked below levels n) (attribute marked below' (suc levels) n)
+  unfolding attribute
+  attribute_good n =
+      good_bind (good_identifier marked) (λ designator.
+      good_pure (with_step (step.Attribute designator) [] 0 n) (λ l w. append_assoc (spelled_name marked n) (bare marked k.Apostrophe ∷ []) (named_form marked designator ∷ []) ∙ step_text marked levels n (step.Attribute designator) [] 0 w.0.1 tt)
+      (λ l w. step_fit levels n (step.Attribute designator) [] 0 w.0.1 tt tt refl (omega arith)))
+
+  quotation_case : {L P : Type 0} (n : TallName) (kind : Option Kind)
+      → Good L (P × IsTallName levels n) (spelled_name marked) (IsTallName levels) (spelled_name marked n ++ bare marked k.Apostrophe ∷ []) (Sees (peek marked) kind) (quotation_by marked below levels n kind) (quotation_by marked below' (suc levels) n kind)
+  quotation_case n (Some k.LeftParenthesis) = (qualification_starts n (λ fs here. here)).good
+  quotation_case n _ = good_fewer (λ fs here. tt) (attribute_good n)
+
+  quotation_starts : {L P : Type 0} {on : List Form → Type 0} (n : TallName) → ((fs : List Form) → on fs → peek marked fs ≡ Some k.Apostrophe) → Reads L P n on (quotation marked below levels n) (quotation marked below' (suc levels) n)
+  unfolding quotation attribute taking
+  quotation_starts n seen =
+      starts_bind (starts_expect marked k.Apostrophe seen refl) (λ u.
+      good_given (λ l. l) (λ l w. w.0)
+      (good_choose (peek marked) (λ t xs ys. refl) (quotation_by marked below levels n) (quotation_by marked below' (suc levels) n) refl refl (quotation_case n)))
+
+  step_starts : {L P : Type 0} (n : TallName) (kind : Option Kind) (x : StepKind) → step_of kind ≡ Some x → Reads L P n (Sees (peek marked) kind) (step_read marked below levels n x) (step_read marked below' (suc levels) n x)
+  step_starts n (Some k.Dot) steps.Selection e = selection_starts n (λ fs here. here)
+  step_starts n (Some k.Apostrophe) steps.Quotation e = quotation_starts n (λ fs here. here)
+  step_starts n (Some k.LeftParenthesis) steps.Application e = application_starts n (λ fs here. here)
+  step_starts n (Some k.Tilde) steps.Entry e = entry_starts n (λ fs here. here)
+  step_starts n _ _ e = absurd cc
+
+  step_turn : (L P : Type 0) (n : TallName) (kind : Option Kind) (x : Option StepKind) → step_of kind ≡ x → Turn L P (spelled_name marked) (IsTallName levels) n (Sees (peek marked) kind) (name_step_by marked below levels n x) (name_step_by marked below' (suc levels) n x)
+  step_turn L P n kind None e = tt
+  step_turn L P n kind (Some x) e = step_starts n kind x e
+
+  name_steps_good : {L P : Type 0} (n : TallName) → Good L (P × IsTallName levels n) (spelled_name marked) (IsTallName levels) (spelled_name marked n) Any (name_steps marked below levels n) (name_steps marked below' (suc levels) n)
+  unfolding name_steps
+  name_steps_good {L} {P} n =
+      good_loop L P (spelled_name marked) (IsTallName levels) (peek marked) (λ t xs ys. refl) (name_step marked below levels) (name_step marked below' (suc levels)) (λ s. refl) (λ s. refl) (λ s kind. step_turn L P s kind (step_of kind) refl) n
+
+  pub name_shrinks : Shrinks (peek marked) (name_step marked below levels)
+  name_shrinks =
+      shrinks ⊤ ⊤ (spelled_name marked) (IsTallName levels) (peek marked) (λ t xs ys. refl) (name_step marked below levels) (name_step marked below' (suc levels)) (λ s. refl) (λ s. refl) (λ s kind. step_turn ⊤ ⊤ s kind (step_of kind) refl) tt
+
+  pub tall_name_starts : {L P : Type 0} {on : List Form → Type 0} → ((fs : List Form) → on fs → peek marked fs ≡ Some k.Identifier) → Starts L P (spelled_name marked) (IsTallName levels) [] on (tall_name marked below levels) (tall_name marked below' (suc levels))
+  unfolding tall_name
+  tall_name_starts seen = starts_bind (starts_identifier marked seen) (λ root. good_given (λ l. l) (λ l w. (w, root_fit levels root)) (name_steps_good (root_name root)))
+
+  pub tall_name_good : {L P : Type 0} → Good L P (spelled_name marked) (IsTallName levels) [] Any (tall_name marked below levels) (tall_name marked below' (suc levels))
+  unfolding tall_name
+  tall_name_good = good_bind (good_identifier marked) (λ root. good_given (λ l. l) (λ l w. (w, root_fit levels root)) (name_steps_good (root_name root)))
+
+  name_primary_starts : {L P : Type 0} {on : List Form → Type 0} → ((fs : List Form) → on fs → peek marked fs ≡ Some k.Identifier) → Starts L P (spelled marked) (IsTall levels layer.Primary) [] on (name_primary marked below levels) (name_primary marked below' (suc levels))
+  unfolding name_primary
+  name_primary_starts seen =
+      starts_bind (tall_name_starts seen) (λ n.
+      good_pure (name_alone n) (λ l w. sym (name_text marked n.path n.parts)) (λ l w. let b = w.1.low in let m = w.1.measured in tall_is levels (tops (map height n.parts)) layer.Primary (name_alone n) (name_is n.path n.parts w.1.steps w.1.parts) m (omega arith)))
 
   primary_case : {L P : Type 0} (kind : Option Kind) → Good L P (spelled marked) (IsTall levels layer.Primary) [] (Sees (peek marked) kind) (primary_by marked below levels kind) (primary_by marked below' (suc levels) kind)
   primary_case (Some k.Number) = (literal_starts (λ fs here. here)).good
-  primary_case (Some k.Identifier) = (with_identifier_starts (λ fs here. here)).good
+  primary_case (Some k.Identifier) = (name_primary_starts (λ fs here. here)).good
   primary_case (Some k.LeftParenthesis) = (parentheses_starts (λ fs here. here)).good
   primary_case _ = good_refuse (λ l w. primary_ends)
 
@@ -465,10 +526,11 @@ module _ (marked : Bool) (below below' : Layer → Reader Tall) (levels : ℕ) (
     range_text : (low high : Tall) → (from_member low ++ bare marked k.DoubleDot ∷ []) ++ spelled marked high ≡ spelled marked (in_range o place tested low high)
     range_text low high = let e = in_range_text marked o place tested.expr low.expr high.expr in simp (append_assoc, e)
 
-    type_text : (low : Tall) (n : Name) → low.expr ≡ expr.Name n → from_member low ≡ spelled marked (in_type o place tested n)
+    type_text : (low : Tall) (n : Name) → low.expr ≡ expr.Name n.path n.parts → from_member low ≡ spelled marked (in_type o place tested n low.height)
     type_text low n e =
         ap (λ (x : Expr). (spelled marked tested ++ written_member marked o place) ++ written_expr marked x) e
-        ∙ append_assoc (spelled marked tested) (written_member marked o place) (written_name marked n) ∙ sym (in_type_text marked o place tested.expr n)
+        ∙ ap (λ (fs : List Form). (spelled marked tested ++ written_member marked o place) ++ fs) (name_text marked n.path n.parts)
+        ∙ append_assoc (spelled marked tested) (written_member marked o place) (written_name marked n) ∙ sym (in_type_text marked o place tested.expr n.path n.parts)
 
     -- what is known where a member is read
     abbrev Tests : Type 0
@@ -492,24 +554,24 @@ module _ (marked : Bool) (below below' : Layer → Reader Tall) (levels : ℕ) (
         }
 
     type_case : {P : Type 0} (low : Tall) (n : Name) → plain_name low.expr ≡ Some n → (kind : Option Kind)
-        → Case (tested.height < levels) ((P × Tests) × IsTall (levels - 1) layer.Sum low) (spelled marked) (IsTall levels layer.Relation) (from_member low) (Sees (peek marked) kind) (in_type o place tested n) (member_by marked below levels o place tested low kind) (member_by marked below' (suc levels) o place tested low kind)
+        → Case (tested.height < levels) ((P × Tests) × IsTall (levels - 1) layer.Sum low) (spelled marked) (IsTall levels layer.Relation) (from_member low) (Sees (peek marked) kind) (in_type o place tested n low.height) (member_by marked below levels o place tested low kind) (member_by marked below' (suc levels) o place tested low kind)
     type_case low n e (Some k.DoubleDot) = present (range_starts low (λ fs here. here))
     type_case low n e _ =
-        absent (ap (type_by o place tested) e) (ap (type_by o place tested) e) (λ l w. type_text low n (plain_is low.expr n e)) (λ l w. in_type_fit levels place layer.Sum tested w.0.1 l o n (omega arith))
+        absent (ap (type_by o place tested low.height) e) (ap (type_by o place tested low.height) e) (λ l w. type_text low n (plain_is low.expr n e)) (λ l w. in_type_fit levels place layer.Sum tested w.0.1 l o low n (omega arith) (plain_is low.expr n e) w.1)
 
     range_case : {P : Type 0} (low : Tall) → plain_name low.expr ≡ None → (kind : Option Kind)
         → Good (tested.height < levels) ((P × Tests) × IsTall (levels - 1) layer.Sum low) (spelled marked) (IsTall levels layer.Relation) (from_member low) (Sees (peek marked) kind) (member_by marked below levels o place tested low kind) (member_by marked below' (suc levels) o place tested low kind)
     range_case low e (Some k.DoubleDot) = (range_starts low (λ fs here. here)).good
-    range_case low e _ = refused (ap (type_by o place tested) e) (ap (type_by o place tested) e) (λ l w. range_ends low l w.0.1 w.1)
+    range_case low e _ = refused (ap (type_by o place tested low.height) e) (ap (type_by o place tested low.height) e) (λ l w. range_ends low l w.0.1 w.1)
 
     member_after : {P : Type 0} (low : Tall) (n : Option Name) → plain_name low.expr ≡ n
         → Good (tested.height < levels) ((P × Tests) × IsTall (levels - 1) layer.Sum low) (spelled marked) (IsTall levels layer.Relation) (from_member low) Any (λ fs. member_by marked below levels o place tested low (peek marked fs) fs) (λ fs. member_by marked below' (suc levels) o place tested low (peek marked fs) fs)
     member_after low (Some n) e =
-        good_option (peek marked) (λ t xs ys. refl) (in_type o place tested n) (member_by marked below levels o place tested low) (member_by marked below' (suc levels) o place tested low)
-        (ap (λ (m : Option Name). type_by o place tested m []) e) (ap (λ (m : Option Name). type_by o place tested m []) e) (type_case low n e)
+        good_option (peek marked) (λ t xs ys. refl) (in_type o place tested n low.height) (member_by marked below levels o place tested low) (member_by marked below' (suc levels) o place tested low)
+        (ap (λ (m : Option Name). type_by o place tested low.height m []) e) (ap (λ (m : Option Name). type_by o place tested low.height m []) e) (type_case low n e)
     member_after low None e =
         good_choose (peek marked) (λ t xs ys. refl) (member_by marked below levels o place tested low) (member_by marked below' (suc levels) o place tested low)
-        (ap (λ (m : Option Name). type_by o place tested m []) e) (ap (λ (m : Option Name). type_by o place tested m []) e) (range_case low e)
+        (ap (λ (m : Option Name). type_by o place tested low.height m []) e) (ap (λ (m : Option Name). type_by o place tested low.height m []) e) (range_case low e)
 
     member_good : {P : Type 0} → Good (tested.height < levels) (P × Tests) (spelled marked) (IsTall levels layer.Relation) (spelled marked tested ++ written_member marked o place) Any (member marked below levels o place tested) (member marked below' (suc levels) o place tested)
     unfolding member
@@ -622,7 +684,22 @@ unfolding at_layer
 at_layer_good marked levels layer = read_good marked (below marked levels) (below marked (suc levels)) levels (below_good marked levels) layer
 
 of_layer_is : (levels : ℕ) (layer : Layer) (m : Tall) → IsTall levels layer m → OfLayer layer levels m.expr
-of_layer_is levels layer m f = record { low = let a = f.low in let b = f.measured in omega arith; layered = f.layered; of_layer = f.of_layer }
+of_layer_is levels layer m f = of_layered levels layer m.expr (let a = f.low in let b = f.measured in omega arith) f.layered f.of_layer
+
+-- ---- names outside of expressions
+
+name_fit : (levels : ℕ) (n : TallName) → IsTallName levels n → IsName levels (record { path = n.path; parts = n.parts })
+name_fit levels n f = (f.steps, parts_within levels (layers_of n.path.steps) n.parts (let a = f.low in let b = f.measured in omega arith) f.parts)
+
+pub name_starts : {L P : Type 0} {on : List Form → Type 0} (marked : Bool) (levels : ℕ) → ((fs : List Form) → on fs → peek marked fs ≡ Some k.Identifier) → Starts L P (written_name marked) (IsName levels) [] on (name marked levels) (name marked (suc levels))
+unfolding name
+name_starts marked levels seen =
+    starts_bind (tall_name_starts marked (below marked levels) (below marked (suc levels)) levels (below_good marked levels) seen) (λ n. good_pure (record { path = n.path; parts = n.parts }) (λ l w. refl) (λ l w. name_fit levels n w.1))
+
+pub name_good : {L P : Type 0} (marked : Bool) (levels : ℕ) → Good L P (written_name marked) (IsName levels) [] Any (name marked levels) (name marked (suc levels))
+unfolding name
+name_good marked levels =
+    good_bind (tall_name_good marked (below marked levels) (below marked (suc levels)) levels (below_good marked levels)) (λ n. good_pure (record { path = n.path; parts = n.parts }) (λ l w. refl) (λ l w. name_fit levels n w.1))
 
 pub expression_good : {L P : Type 0} (marked : Bool) (levels : ℕ) → Good L P (written_expr marked) (IsExpr levels) [] Any (expression marked levels) (expression marked (suc levels))
 unfolding expression

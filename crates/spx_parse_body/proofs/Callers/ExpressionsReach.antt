@@ -1,10 +1,8 @@
 -- The forms of a name or an expression are read as that, whatever stands after them that does not go on with it.
-use Rattle.std.proofs.Common.{◌≡◌, ◌⊎◌, inl, inr, ℕ, zero, suc, ◌+◌, ◌-◌, ◌≤◌, ◌<◌, max, Bool, true, false, List, [], ◌∷◌, ◌++◌, Option, Some, None, Ok, refl, sym, ap, subst, ◌∙◌, append_assoc, arith}
-use denote.Hole.Carrier.{hidden}
+use Rattle.std.proofs.Common.{◌≡◌, ◌⊎◌, inl, inr, ℕ, zero, suc, ◌+◌, ◌-◌, ◌≤◌, ◌<◌, max, Bool, true, false, List, [], ◌∷◌, ◌++◌, map, length, Option, Some, None, Ok, refl, sym, ap, ap₂, subst, ◌∙◌, append_assoc, arith, ℤ}
 use Rattle.spx_text.specs.declared.place.Place.{Place}
 use Rattle.spx_tree.specs.declared.token.Kind.{Kind}
 use Rattle.spx_tree.specs.declared.token.Kind.TheVariants as k
-use Rattle.spx_tree.specs.declared.expression.Identifier.{Identifier}
 use Rattle.spx_tree.specs.declared.expression.InfixOp.{InfixOp}
 use Rattle.spx_tree.specs.declared.expression.InfixOp.TheVariants as op
 use Rattle.spx_tree.specs.declared.expression.PrefixOp.{PrefixOp}
@@ -13,75 +11,33 @@ use Rattle.spx_tree.specs.declared.expression.MemberOp.{MemberOp}
 use Rattle.spx_tree.specs.declared.expression.MemberOp.TheVariants as members
 use Rattle.spx_tree.specs.declared.expression.Layer.{Layer}
 use Rattle.spx_tree.specs.declared.expression.Layer.TheVariants as layer
+use Rattle.spx_tree.specs.declared.expression.Path.{Path}
 use Rattle.spx_tree.specs.declared.expression.Name.{Name}
-use Rattle.spx_tree.specs.declared.expression.Name.TheVariants.{Simple, Attribute}
-use Rattle.spx_tree.specs.declared.expression.Function.{Function}
-use Rattle.spx_tree.specs.declared.expression.FunctionForm.{FunctionForm}
-use Rattle.spx_tree.specs.declared.expression.FunctionForm.TheVariants as forms
-use Rattle.spx_tree.specs.declared.expression.Expr.{Expr}
-use Rattle.spx_tree.specs.declared.expression.Expr.TheBlock.{hidden-the_row-Expr-0}
+use Rattle.spx_tree.specs.declared.expression.Expr.{Expr, Expr-F, out-Expr, map-Expr, fold-Expr, fold_out-Expr}
 use Rattle.spx_tree.specs.declared.expression.Expr.TheVariants as expr
+use Rattle.spx_tree.specs.declared.expression.Expr.TheVariants.{outs-Number, outs-Name, outs-Parenthesized, outs-Prefix, outs-Infix, outs-InType, outs-InRange}
 use Rattle.spx_tree.specs.Form.{Form, Kept, Nothing, Where, Spelled, Valued, placed, bare, named}
-use Rattle.spx_tree.specs.Written as written
 use Rattle.spx_tree.specs.declared.annotation.Predicate.{Predicate}
-use Rattle.spx_tree.specs.Written.{annotation, written_at, parenthesized, sign_kind, operator_kind, second_word, written_operator, written_member, written_form, written_name, written_expr}
-use Rattle.spx_tree.specs.Grammar.{height, layer_of, layer_before, layer_in, rank, right_layer, operand_layer, HasOperator, FitsLeft, IsUpTo, Layered, OfLayer, IsExpr, IsCondition, IsPredicate}
+use Rattle.spx_tree.specs.Written.{annotation, written_at, sign_kind, operator_kind, second_word, written_operator, written_member, written_steps, written_path, written_name, written_expr}
+use Rattle.spx_tree.specs.Grammar.{layer_of, layer_before, layer_in, rank, right_layer, operand_layer, IsOperation, HasOperator, FitsLeft, layers_of, IsName, OfLayer, IsExpr, IsCondition, IsPredicate}
 use Rattle.spx_parse_body.specs.declared.expressions.Tall.{Tall}
 use Rattle.spx_cursor.specs.declared.operators.Chain.{Chain}
 use Rattle.spx_cursor.specs.declared.operators.Chain.TheVariants as chain
 use Rattle.spx_cursor.specs.declared.operators.Relator.{Relator}
 use Rattle.spx_cursor.specs.declared.operators.Relator.TheVariants as relators
-use Rattle.spx_cursor.specs.Reading.{Outcome, Reader, and_then, peek}
+use Rattle.spx_cursor.specs.Reading.{Outcome, Reader, and_then, peek, sees}
 use Rattle.spx_cursor.specs.Operators.{sign_of, abs_or_not, power_of, multiplying, adding, relator_of, logical, connective_of, last_layer, if_then, if_else, same_logical, goes_on, second, whole_by, whole_operator}
-use Rattle.spx_parse_body.specs.Expressions.{function_of, name_by, name, literal, entry, in_parentheses, application, attribute_by, attribute, with_apostrophe_by, with_apostrophe, with_identifier_by, with_identifier, primary_by, primary, operated, joined_by, power_by, power, factor_by, factor, step_by, chain_step, chained, term, signed_by, signed, sum, type_by, member_by, member, inside, outside, relation_by, relation, combined, opening_by, opening, combination_by, combination, connection_by, connection, read, below, at_layer, expression, predicate, expression_at, predicate_after, simple_expression, expression_below, simple_expression_below, IsExprAt}
+use Rattle.spx_parse_body.specs.Expressions.{joined, part_step, named_step, name_step, literal, in_parentheses, primary_by, primary, operated, joined_by, power_by, power, factor_by, factor, step_by, chain_step, chained, term, signed_by, signed, sum, type_by, member_by, member, inside, outside, relation_by, relation, combined, opening_by, opening, combination_by, combination, connection_by, connection, read, below, at_layer, name, expression, predicate, expression_at, predicate_after, simple_expression, expression_below, simple_expression_below, IsExprAt, plain_name, name_at}
+use Rattle.spx_parse_body.specs.Expressions.{in_type as in_type_tall}
+use Rattle.spx_parse_body.proofs.Callers.Heights.{tops, height, name_height, infix_height, prefix_height, parenthesized_height, in_type_height, in_range_height, rank_low, IsUpTo, Layered, IsPart, Operands, infix_parts, prefix_parts, enclosed_parts, in_type_parts, in_range_parts, name_parts, infix_layer, prefix_layer, in_type_layer, in_range_layer, name_layer, infix_has, number_height, by_form, by_kind, by_height, of_layer_low, layered_of, parts_of, parts_low}
+use Rattle.spx_parse_body.proofs.Callers.Names.{text_of, name_text}
+use Rattle.spx_parse_body.proofs.Callers.ExpressionsGood.{enclosed_text, prefixed_text, infix_text, in_type_text, in_range_text}
+use Rattle.spx_parse_body.proofs.Callers.NamesReach.{measure, strength, Free, peek_here, Again, bare_past, bare_free, name_reached, primary_reached}
 use Rattle.spx_parse_body.proofs.Callers.Loops.{Shrinks}
-use Rattle.spx_parse_body.proofs.Callers.Reaches.{Reaches, reaches_bind, reaches_pure, reaches_choose, reaches_deeper, reaches_expect, reaches_expect_place, reaches_identifier, reaches_number, peek_front, loop_turn, loop_over}
+use Rattle.spx_parse_body.proofs.Callers.Reaches.{Reaches, reaches_bind, reaches_pure, reaches_choose, reaches_deeper, reaches_expect, reaches_expect_place, reaches_number, reaches_is, peek_front, loop_turn, loop_over}
 use Rattle.spx_parse_body.proofs.Callers.Operators.{chain_layer}
-use Rattle.spx_parse_body.proofs.Callers.ExpressionsGood.{below_good, chain_shrinks}
-
--- an expression with its height
-abbrev pub measure : Expr → Tall
-measure x = record { expr = x; height = height x }
-
--- the rank of the least layer that a form of this kind goes on with, or a greater number
-abbrev pub strength : Option Kind → ℕ
-strength (Some k.Apostrophe) = 0
-strength (Some k.LeftParenthesis) = 0
-strength (Some k.Tilde) = 0
-strength (Some k.DoubleAsterisk) = 1
-strength (Some k.Asterisk) = 2
-strength (Some k.Slash) = 2
-strength (Some k.Mod) = 2
-strength (Some k.Rem) = 2
-strength (Some k.Plus) = 3
-strength (Some k.Minus) = 3
-strength (Some k.Equal) = 4
-strength (Some k.NotEqual) = 4
-strength (Some k.Less) = 4
-strength (Some k.LessOrEqual) = 4
-strength (Some k.Greater) = 4
-strength (Some k.GreaterOrEqual) = 4
-strength (Some k.In) = 4
-strength (Some k.Not) = 4
-strength (Some k.DoubleDot) = 4
-strength (Some k.And) = 5
-strength (Some k.Or) = 5
-strength (Some k.Xor) = 5
-strength (Some k.Implication) = 6
-strength (Some k.Equivalence) = 6
-strength _ = 7
-
--- the next form does not go on with an expression of this layer
-abbrev pub Free : Layer → Option Kind → Type 0
-Free layer kind = rank layer < strength kind
-
-pub peek_here : (marked : Bool) (kind : Kind) (part : Kept) (fs : List Form) → peek marked (record { kind = kind; marked = marked; kept = part } ∷ fs) ≡ Some kind
-peek_here true kind part fs = refl
-peek_here false kind part fs = refl
-
--- an expression of this layer is read, within so many levels
-abbrev pub Again : Bool → Reader Tall → ℕ → Layer → Type 0
-Again marked p levels layer = (x : Expr) (fs zs : List Form) → height x ≤ levels → Layered x → rank (layer_in x) ≤ rank layer → Free layer (peek marked zs) → fs ≡ written_expr marked x ++ zs → Reaches p fs (measure x) zs
+use Rattle.spx_parse_body.proofs.Callers.ExpressionsGood.{below_good, chain_shrinks, parts_shrinks}
+use Rattle.spx_parse_body.proofs.Callers.ExpressionsGood.{named_shrinks as formals_shrink, name_shrinks as steps_shrink}
 
 -- ---- operators
 
@@ -223,10 +179,6 @@ layers layer.Expression layer.Expression h = inl refl
 layers layer.Predicate layer.Predicate h = inl refl
 layers _ _ h = inr (omega arith)
 
-rank_low : (a : Layer) → rank a ≤ 6
-rank_low layer.Primary = omega arith
-rank_low _ = omega arith
-
 right_low : (a : Layer) → rank (right_layer a) ≤ rank a
 right_low layer.Primary = omega arith
 right_low _ = omega arith
@@ -239,51 +191,101 @@ some_before : (o : PrefixOp) → 0 < rank (layer_before o)
 some_before sign.Plus = omega arith
 some_before _ = omega arith
 
--- ---- names
-
-name_plain : (marked : Bool) (prefix : Identifier) (kind : Option Kind) (us zs : List Form) → (kind ≡ Some k.Apostrophe → ⊥) → us ≡ zs → Reaches (name_by marked prefix kind) us (Simple prefix) zs
-name_plain marked prefix (Some k.Apostrophe) us zs free e = absurd (free refl)
-name_plain marked prefix _ us zs free e = reaches_pure e
-
-pub name_again : (marked : Bool) (x : Name) (fs zs : List Form) → (peek marked zs ≡ Some k.Apostrophe → ⊥) → fs ≡ written_name marked x ++ zs → Reaches (name marked) fs x zs
-unfolding name
-name_again marked (Simple prefix) fs zs free e =
-    reaches_bind _ (reaches_identifier marked e) (λ us a. reaches_choose (peek marked) (name_by marked prefix) (peek marked zs) (peek_front marked us a) (name_plain marked prefix (peek marked zs) us zs free a))
-name_again marked (Attribute prefix designator) fs zs free e =
-    reaches_bind _ (reaches_identifier marked e) (λ us a. reaches_choose (peek marked) (name_by marked prefix) (Some k.Apostrophe) (peek_front marked us a ∙ peek_here marked k.Apostrophe Nothing (named marked designator ∷ zs))
-    (reaches_bind _ (reaches_expect marked k.Apostrophe a) (λ vs b. reaches_bind _ (reaches_identifier marked b) (λ ws d. reaches_pure d))))
-
--- an identifier comes first
-pub name_front : (marked : Bool) (x : Name) (zs : List Form) → peek marked (written_name marked x ++ zs) ≡ Some k.Identifier
-name_front marked (Simple prefix) zs = peek_here marked k.Identifier (Spelled prefix.text prefix.place) zs
-name_front marked (Attribute prefix designator) zs = peek_here marked k.Identifier (Spelled prefix.text prefix.place) (bare marked k.Apostrophe ∷ named marked designator ∷ zs)
-
 -- ---- what expressions begin with
 
-abbrev front_kind : Expr → Kind
-front_kind (expr.Number value place) = k.Number
-front_kind (expr.Name x) = k.Identifier
-front_kind (expr.Entry identifier) = k.Identifier
-front_kind (written.applied function place operand) = k.Identifier
-front_kind (parenthesized place inner) = k.LeftParenthesis
-front_kind (written.signed o place operand) = sign_kind o
-front_kind (written.operation o place left right) = front_kind left
-front_kind (written.in_type o place tested type_name) = front_kind tested
-front_kind (written.in_range o place tested low high) = front_kind tested
+front_step : Expr-F Kind → Kind
+front_step (Expr-F.Number value place) = k.Number
+front_step (Expr-F.Name path parts) = k.Identifier
+front_step (Expr-F.Parenthesized place inner) = k.LeftParenthesis
+front_step (Expr-F.Prefix o place operand) = sign_kind o
+front_step (Expr-F.Infix o place left right) = left
+front_step (Expr-F.InType o place tested path parts) = tested
+front_step (Expr-F.InRange o place tested low high) = tested
 
-front : (marked : Bool) (x : Expr) (zs : List Form) → peek marked (written_expr marked x ++ zs) ≡ Some (front_kind x)
-front marked (expr.Number value place) zs = peek_here marked k.Number (Valued value place) zs
-front marked (expr.Name x) zs = name_front marked x zs
-front marked (expr.Entry x) zs = peek_here marked k.Identifier (Spelled x.text x.place) (bare marked k.Tilde ∷ zs)
-front marked (written.applied function place operand) zs =
-    peek_here marked k.Identifier (Spelled function.name.text function.name.place) ((written_form marked function.form ++ (placed marked k.LeftParenthesis place ∷ (written_expr marked operand ++ bare marked k.RightParenthesis ∷ []))) ++ zs)
-front marked (parenthesized place inner) zs = peek_here marked k.LeftParenthesis (Where place) ((written_expr marked inner ++ bare marked k.RightParenthesis ∷ []) ++ zs)
-front marked (written.signed o place operand) zs = peek_here marked (sign_kind o) (Where place) (written_expr marked operand ++ zs)
-front marked (written.operation o place left right) zs = ap (peek marked) (append_assoc (written_expr marked left) (written_operator marked o place ++ written_expr marked right) zs) ∙ front marked left ((written_operator marked o place ++ written_expr marked right) ++ zs)
-front marked (written.in_type o place tested type_name) zs = ap (peek marked) (append_assoc (written_expr marked tested) (written_member marked o place ++ written_name marked type_name) zs) ∙ front marked tested ((written_member marked o place ++ written_name marked type_name) ++ zs)
-front marked (written.in_range o place tested low high) zs =
-    let following : List Form = written_member marked o place ++ (written_expr marked low ++ bare marked k.DoubleDot ∷ written_expr marked high) in
-    ap (peek marked) (append_assoc (written_expr marked tested) following zs) ∙ front marked tested (following ++ zs)
+front_kind : Expr → Kind
+front_kind = fold-Expr Kind front_step
+
+front_of : (x : Expr) (y : Expr-F Expr) → out-Expr x ≡ y → front_kind x ≡ front_step (map-Expr Expr Kind front_kind y)
+unfolding front_kind front_step
+front_of x y e = fold_out-Expr Kind front_step x ∙ ap (λ (z : Expr-F Expr). front_step (map-Expr Expr Kind front_kind z)) e
+
+number_front : (value : ℤ) (place : Place) → front_kind (expr.Number value place) ≡ k.Number
+unfolding front_step
+number_front value place = front_of (expr.Number value place) (Expr-F.Number value place) (outs-Number value place)
+
+name_front_is : (path : Path) (parts : List Expr) → front_kind (expr.Name path parts) ≡ k.Identifier
+unfolding front_step
+name_front_is path parts = front_of (expr.Name path parts) (Expr-F.Name path parts) (outs-Name path parts)
+
+enclosed_front : (place : Place) (inner : Expr) → front_kind (expr.Parenthesized place inner) ≡ k.LeftParenthesis
+unfolding front_step
+enclosed_front place inner = front_of (expr.Parenthesized place inner) (Expr-F.Parenthesized place inner) (outs-Parenthesized place inner)
+
+prefix_front : (o : PrefixOp) (place : Place) (operand : Expr) → front_kind (expr.Prefix o place operand) ≡ sign_kind o
+unfolding front_step
+prefix_front o place operand = front_of (expr.Prefix o place operand) (Expr-F.Prefix o place operand) (outs-Prefix o place operand)
+
+infix_front : (o : InfixOp) (place : Place) (left right : Expr) → front_kind (expr.Infix o place left right) ≡ front_kind left
+unfolding front_step
+infix_front o place left right = front_of (expr.Infix o place left right) (Expr-F.Infix o place left right) (outs-Infix o place left right)
+
+in_type_front : (o : MemberOp) (place : Place) (tested : Expr) (path : Path) (parts : List Expr) → front_kind (expr.InType o place tested path parts) ≡ front_kind tested
+unfolding front_step
+in_type_front o place tested path parts = front_of (expr.InType o place tested path parts) (Expr-F.InType o place tested path parts) (outs-InType o place tested path parts)
+
+in_range_front : (o : MemberOp) (place : Place) (tested low high : Expr) → front_kind (expr.InRange o place tested low high) ≡ front_kind tested
+unfolding front_step
+in_range_front o place tested low high = front_of (expr.InRange o place tested low high) (Expr-F.InRange o place tested low high) (outs-InRange o place tested low high)
+
+-- the left operands are less high
+infix_less : (o : InfixOp) (place : Place) (left right : Expr) → height left < height (expr.Infix o place left right)
+infix_less o place left right = let h = infix_height o place left right in omega arith
+
+in_type_less : (o : MemberOp) (place : Place) (tested : Expr) (path : Path) (parts : List Expr) → height tested < height (expr.InType o place tested path parts)
+in_type_less o place tested path parts = let h = in_type_height o place tested path parts in omega arith
+
+in_range_less : (o : MemberOp) (place : Place) (tested low high : Expr) → height tested < height (expr.InRange o place tested low high)
+in_range_less o place tested low high = let h = in_range_height o place tested low high in omega arith
+
+-- what holds of an expression where it holds of all that are less high, by its form
+module _ (Q : Expr → Type 0)
+    (number : (value : ℤ) (place : Place) → Q (expr.Number value place)) (name : (path : Path) (parts : List Expr) → Q (expr.Name path parts)) (enclosed : (place : Place) (inner : Expr) → Q (expr.Parenthesized place inner))
+    (prefixed : (o : PrefixOp) (place : Place) (operand : Expr) → Q (expr.Prefix o place operand)) (operation : (o : InfixOp) (place : Place) (left right : Expr) → Q left → Q (expr.Infix o place left right))
+    (in_type : (o : MemberOp) (place : Place) (tested : Expr) (path : Path) (parts : List Expr) → Q tested → Q (expr.InType o place tested path parts)) (in_range : (o : MemberOp) (place : Place) (tested low high : Expr) → Q tested → Q (expr.InRange o place tested low high)) where
+  abbrev Rest : Expr → Type 0
+  Rest x = ((z : Expr) → height z < height x → Q z) → Q x
+
+  by_left : (x : Expr) → Q x
+  by_left = by_height Q (by_form Rest (λ value place rest. number value place) (λ path parts rest. name path parts) (λ place inner rest. enclosed place inner) (λ o place operand rest. prefixed o place operand)
+      (λ o place left right rest. operation o place left right (rest left (infix_less o place left right)))
+      (λ o place tested path parts rest. in_type o place tested path parts (rest tested (in_type_less o place tested path parts)))
+      (λ o place tested low high rest. in_range o place tested low high (rest tested (in_range_less o place tested low high))))
+
+-- forms begin with this kind, whatever stands after them
+abbrev BeginsSo : Bool → List Form → Kind → Type 0
+BeginsSo marked fs kind = (zs : List Form) → peek marked (fs ++ zs) ≡ Some kind
+
+begins_by : (marked : Bool) (x : Expr) (fs : List Form) (kind : Kind) → written_expr marked x ≡ fs → front_kind x ≡ kind → BeginsSo marked fs kind → BeginsSo marked (written_expr marked x) (front_kind x)
+begins_by marked x fs kind text is h zs = ap (λ (us : List Form). peek marked (us ++ zs)) text ∙ h zs ∙ ap (λ (j : Kind). Some j) (sym is)
+
+begins_more : (marked : Bool) (a b : List Form) (kind : Kind) → BeginsSo marked a kind → BeginsSo marked (a ++ b) kind
+begins_more marked a b kind h zs = ap (peek marked) (append_assoc a b zs) ∙ h (b ++ zs)
+
+front : (marked : Bool) (x : Expr) → BeginsSo marked (written_expr marked x) (front_kind x)
+front marked = by_left (λ x. BeginsSo marked (written_expr marked x) (front_kind x))
+    (λ value place. begins_by marked (expr.Number value place) _ k.Number (text_of marked (expr.Number value place) (Expr-F.Number value place) (outs-Number value place)) (number_front value place) (λ zs. peek_here marked k.Number (Valued value place) zs))
+    (λ path parts. begins_by marked (expr.Name path parts) _ k.Identifier (name_text marked path parts) (name_front_is path parts) (λ zs. peek_here marked k.Identifier (Spelled path.root.text path.root.place) (written_steps marked path.steps (map (written_expr marked) parts) ++ zs)))
+    (λ place inner. begins_by marked (expr.Parenthesized place inner) _ k.LeftParenthesis (enclosed_text marked place inner) (enclosed_front place inner) (λ zs. peek_here marked k.LeftParenthesis (Where place) ((written_expr marked inner ++ bare marked k.RightParenthesis ∷ []) ++ zs)))
+    (λ o place operand. begins_by marked (expr.Prefix o place operand) _ (sign_kind o) (prefixed_text marked o place operand) (prefix_front o place operand) (λ zs. peek_here marked (sign_kind o) (Where place) (written_expr marked operand ++ zs)))
+    (λ o place left right h. begins_by marked (expr.Infix o place left right) _ (front_kind left) (infix_text marked o place left right) (infix_front o place left right) (begins_more marked (written_expr marked left) _ (front_kind left) h))
+    (λ o place tested path parts h. begins_by marked (expr.InType o place tested path parts) _ (front_kind tested) (in_type_text marked o place tested path parts) (in_type_front o place tested path parts) (begins_more marked (written_expr marked tested) _ (front_kind tested) h))
+    (λ o place tested low high h. begins_by marked (expr.InRange o place tested low high) _ (front_kind tested) (in_range_text marked o place tested low high) (in_range_front o place tested low high) (begins_more marked (written_expr marked tested) _ (front_kind tested) h))
+
+-- what holds of the kinds that expressions begin with
+front_holds : (R : Kind → Type 0) → R k.Number → R k.Identifier → R k.LeftParenthesis → ((o : PrefixOp) → R (sign_kind o)) → (x : Expr) → R (front_kind x)
+front_holds R a b c d = by_left (λ x. R (front_kind x))
+    (λ value place. subst R (sym (number_front value place)) a) (λ path parts. subst R (sym (name_front_is path parts)) b) (λ place inner. subst R (sym (enclosed_front place inner)) c) (λ o place operand. subst R (sym (prefix_front o place operand)) (d o))
+    (λ o place left right h. subst R (sym (infix_front o place left right)) h) (λ o place tested path parts h. subst R (sym (in_type_front o place tested path parts)) h) (λ o place tested low high h. subst R (sym (in_range_front o place tested low high)) h)
 
 -- no expression begins with the second word of an operator
 abbrev NoSecond : Kind → Type 0
@@ -294,30 +296,14 @@ sign_no_second sign.Plus = (refl, refl)
 sign_no_second _ = (refl, refl)
 
 front_no_second : (x : Expr) → NoSecond (front_kind x)
-front_no_second (expr.Number value place) = (refl, refl)
-front_no_second (expr.Name x) = (refl, refl)
-front_no_second (expr.Entry x) = (refl, refl)
-front_no_second (written.applied function place operand) = (refl, refl)
-front_no_second (parenthesized place inner) = (refl, refl)
-front_no_second (written.signed o place operand) = sign_no_second o
-front_no_second (written.operation o place left right) = front_no_second left
-front_no_second (written.in_type o place tested type_name) = front_no_second tested
-front_no_second (written.in_range o place tested low high) = front_no_second tested
+front_no_second = front_holds NoSecond (refl, refl) (refl, refl) (refl, refl) sign_no_second
 
 sign_no_others : (o : PrefixOp) → sign_kind o ≡ k.Others → ⊥
 sign_no_others sign.Plus e = cc
 sign_no_others _ e = cc
 
 front_no_others : (x : Expr) → front_kind x ≡ k.Others → ⊥
-front_no_others (expr.Number value place) e = cc
-front_no_others (expr.Name x) e = cc
-front_no_others (expr.Entry x) e = cc
-front_no_others (written.applied function place operand) e = cc
-front_no_others (parenthesized place inner) e = cc
-front_no_others (written.signed o place operand) e = sign_no_others o e
-front_no_others (written.operation o place left right) e = front_no_others left e
-front_no_others (written.in_type o place tested type_name) e = front_no_others tested e
-front_no_others (written.in_range o place tested low high) e = front_no_others tested e
+front_no_others = front_holds (λ kind. kind ≡ k.Others → ⊥) (λ e. cc) (λ e. cc) (λ e. cc) sign_no_others
 
 -- no expression begins with the word "others"
 pub not_others : (marked : Bool) (x : Expr) (zs : List Form) → peek marked (written_expr marked x ++ zs) ≡ Some k.Others → ⊥
@@ -338,35 +324,30 @@ left_low layer.Predicate o x h f = absurd (omega arith)
 
 -- no term begins with a sign
 unsigned : (x : Expr) → Layered x → rank (layer_in x) ≤ 2 → sign_of (Some (front_kind x)) ≡ None
-unsigned (expr.Number value place) l r = refl
-unsigned (expr.Name x) l r = refl
-unsigned (expr.Entry x) l r = refl
-unsigned (written.applied function place operand) l r = refl
-unsigned (parenthesized place inner) l r = refl
-unsigned (written.signed o place operand) l r = elim (before_cases o) [ inl e ↦ let h = ap rank e.0 in absurd (omega arith) | inr e ↦ e.2 ]
-unsigned (written.operation o place left right) l r = unsigned left l.0 (let h = left_low (layer_of o) o left (omega arith) l.2 in omega arith)
-unsigned (written.in_type o place tested type_name) l r = absurd (omega arith)
-unsigned (written.in_range o place tested low high) l r = absurd (omega arith)
+unsigned = by_left (λ x. Layered x → rank (layer_in x) ≤ 2 → sign_of (Some (front_kind x)) ≡ None)
+    (λ value place l r. ap (λ (j : Kind). sign_of (Some j)) (number_front value place)) (λ path parts l r. ap (λ (j : Kind). sign_of (Some j)) (name_front_is path parts)) (λ place inner l r. ap (λ (j : Kind). sign_of (Some j)) (enclosed_front place inner))
+    (λ o place operand l r. ap (λ (j : Kind). sign_of (Some j)) (prefix_front o place operand) ∙ elim (before_cases o) [ inl e ↦ let h = ap rank e.0 in let a = ap rank (prefix_layer o place operand) in absurd (omega arith) | inr e ↦ e.2 ])
+    (λ o place left right rest l r.
+    let a = ap rank (infix_layer o place left right) in
+    let q = infix_parts o place left right l in
+    ap (λ (j : Kind). sign_of (Some j)) (infix_front o place left right) ∙ rest q.0 (let h = left_low (layer_of o) o left (omega arith) q.2 in omega arith))
+    (λ o place tested path parts rest l r. let a = ap rank (in_type_layer o place tested path parts) in absurd (omega arith))
+    (λ o place tested low high rest l r. let a = ap rank (in_range_layer o place tested low high) in absurd (omega arith))
 
 -- no primary begins with "abs" or "not"
 wordless : (x : Expr) → rank (layer_in x) ≤ 0 → abs_or_not (Some (front_kind x)) ≡ None
-wordless (expr.Number value place) r = refl
-wordless (expr.Name x) r = refl
-wordless (expr.Entry x) r = refl
-wordless (written.applied function place operand) r = refl
-wordless (parenthesized place inner) r = refl
-wordless (written.signed o place operand) r = let h = some_before o in absurd (omega arith)
-wordless (written.operation o place left right) r = let h = some_rank o in absurd (omega arith)
-wordless (written.in_type o place tested type_name) r = absurd (omega arith)
-wordless (written.in_range o place tested low high) r = absurd (omega arith)
+wordless = by_form (λ x. rank (layer_in x) ≤ 0 → abs_or_not (Some (front_kind x)) ≡ None)
+    (λ value place r. ap (λ (j : Kind). abs_or_not (Some j)) (number_front value place)) (λ path parts r. ap (λ (j : Kind). abs_or_not (Some j)) (name_front_is path parts)) (λ place inner r. ap (λ (j : Kind). abs_or_not (Some j)) (enclosed_front place inner))
+    (λ o place operand r. let h = some_before o in let a = ap rank (prefix_layer o place operand) in absurd (omega arith))
+    (λ o place left right r. let h = some_rank o in let a = ap rank (infix_layer o place left right) in absurd (omega arith))
+    (λ o place tested path parts r. let a = ap rank (in_type_layer o place tested path parts) in absurd (omega arith))
+    (λ o place tested low high r. let a = ap rank (in_range_layer o place tested low high) in absurd (omega arith))
+
+-- an operation, as it is joined
+joined_measure : (o : InfixOp) (place : Place) (x y : Expr) → joined o place (measure x) (measure y) ≡ measure (expr.Infix o place x y)
+joined_measure o place x y = ap (λ (h : ℕ). record { expr = expr.Infix o place x y; height = h }) (sym (infix_height o place x y))
 
 -- ---- expressions
-
-bare_past : (marked : Bool) (kind : Kind) (zs : List Form) → strength (Some kind) ≡ 7 → Free layer.Predicate (peek marked (bare marked kind ∷ zs))
-bare_past marked kind zs h = let e = ap strength (peek_here marked kind Nothing zs) ∙ h in omega arith
-
-pub bare_free : (marked : Bool) (kind : Kind) (zs : List Form) → strength (Some kind) ≡ 7 → Free layer.Expression (peek marked (bare marked kind ∷ zs))
-bare_free marked kind zs h = let past = bare_past marked kind zs h in omega arith
 
 second_again : (marked : Bool) (o : InfixOp) (fs zs : List Form) → fs ≡ second_word marked o ++ zs → Reaches (second marked o) fs tt zs
 second_again marked op.AndThen fs zs e = reaches_expect marked k.Then e
@@ -392,121 +373,67 @@ whole_again marked op.OrElse y fs zs is e =
     (reaches_bind _ (second_again marked op.OrElse fs (written_expr marked y ++ zs) e) (λ us a. reaches_pure a))
 whole_again marked _ y fs zs is e = absurd cc
 
-module _ (marked : Bool) (below : Layer → Reader Tall) (levels : ℕ) (shrinks : (c : Chain) → Shrinks (peek marked) (chain_step marked below levels c)) (again : 0 < levels → (layer : Layer) → Again marked (below layer) (levels - 1) layer) where
+-- What is told of an expression of this layer: it is read.
+abbrev Told : Bool → Reader Tall → ℕ → Layer → Expr → Type 0
+Told marked p levels layer x = (fs zs : List Form) → height x ≤ levels → Layered x → rank (layer_in x) ≤ rank layer → Free layer (peek marked zs) → fs ≡ written_expr marked x ++ zs → Reaches p fs (measure x) zs
+
+module _ (marked : Bool) (below : Layer → Reader Tall) (levels : ℕ) (shrinks : (c : Chain) → Shrinks (peek marked) (chain_step marked below levels c)) (part_shrinks : 0 < levels → Shrinks (sees marked k.Comma) (part_step marked below levels))
+    (named_shrinks : 0 < levels → Shrinks (sees marked k.Comma) (named_step marked below levels)) (name_shrinks : Shrinks (peek marked) (name_step marked below levels)) (again : 0 < levels → (layer : Layer) → Again marked (below layer) (levels - 1) layer) where
   parentheses_again : (place : Place) (inner : Expr) (fs zs : List Form) → height inner + 1 ≤ levels → Layered inner → fs ≡ placed marked k.LeftParenthesis place ∷ (written_expr marked inner ++ bare marked k.RightParenthesis ∷ zs)
-      → Reaches (in_parentheses marked below levels) fs (measure (parenthesized place inner)) zs
-  unfolding in_parentheses hidden-the_row-Expr-0 hidden
+      → Reaches (in_parentheses marked below levels) fs (measure (expr.Parenthesized place inner)) zs
+  unfolding in_parentheses
   parentheses_again place inner fs zs low l e =
       let some : 0 < levels = omega arith in
       reaches_deeper some
       (reaches_bind _ (reaches_expect_place marked k.LeftParenthesis e) (λ us a.
       reaches_bind _ (again some layer.Predicate inner us (bare marked k.RightParenthesis ∷ zs) (omega arith) l (rank_low (layer_in inner)) (bare_past marked k.RightParenthesis zs refl) a) (λ vs b.
-      reaches_bind _ (reaches_expect marked k.RightParenthesis b) (λ ws d. reaches_pure d))))
-
-  -- ---- what an identifier begins
-
-  simple_plain : (prefix : Identifier) (kind : Option Kind) (us zs : List Form) → 0 < strength kind → us ≡ zs → Reaches (with_identifier_by marked below levels prefix kind) us (measure (expr.Name (Simple prefix))) zs
-  simple_plain prefix (Some k.Apostrophe) us zs free e = absurd (omega arith)
-  simple_plain prefix (Some k.LeftParenthesis) us zs free e = absurd (omega arith)
-  simple_plain prefix (Some k.Tilde) us zs free e = absurd (omega arith)
-  simple_plain prefix _ us zs free e = reaches_pure e
-
-  attribute_plain : (prefix designator : Identifier) (kind : Option Kind) (us zs : List Form) → 0 < strength kind → us ≡ zs → Reaches (attribute_by marked below levels prefix designator kind) us (measure (expr.Name (Attribute prefix designator))) zs
-  attribute_plain prefix designator (Some k.LeftParenthesis) us zs free e = absurd (omega arith)
-  attribute_plain prefix designator _ us zs free e = reaches_pure e
-
-  plain_again : (x : Name) (fs zs : List Form) → 0 < strength (peek marked zs) → fs ≡ written_name marked x ++ zs → Reaches (with_identifier marked below levels) fs (measure (expr.Name x)) zs
-  unfolding with_identifier with_apostrophe attribute
-  plain_again (Simple prefix) fs zs free e =
-      reaches_bind _ (reaches_identifier marked e) (λ us a. reaches_choose (peek marked) (with_identifier_by marked below levels prefix) (peek marked zs) (peek_front marked us a) (simple_plain prefix (peek marked zs) us zs free a))
-  plain_again (Attribute prefix designator) fs zs free e =
-      reaches_bind _ (reaches_identifier marked e) (λ us a.
-      reaches_choose (peek marked) (with_identifier_by marked below levels prefix) (Some k.Apostrophe) (peek_front marked us a ∙ peek_here marked k.Apostrophe Nothing (named marked designator ∷ zs))
-      (reaches_bind _ (reaches_expect marked k.Apostrophe a) (λ vs b.
-      reaches_choose (peek marked) (with_apostrophe_by marked below levels prefix) (Some k.Identifier) (peek_front marked vs b ∙ peek_here marked k.Identifier (Spelled designator.text designator.place) zs)
-      (reaches_bind _ (reaches_identifier marked b) (λ ws d. reaches_choose (peek marked) (attribute_by marked below levels prefix designator) (peek marked zs) (peek_front marked ws d) (attribute_plain prefix designator (peek marked zs) ws zs free d))))))
-
-  -- the operand of a function, and what stands after it
-  abbrev from_operand : Place → Expr → List Form → List Form
-  from_operand place x zs = placed marked k.LeftParenthesis place ∷ (written_expr marked x ++ bare marked k.RightParenthesis ∷ zs)
-
-  operand_seen : (place : Place) (x : Expr) (us zs : List Form) → us ≡ from_operand place x zs → peek marked us ≡ Some k.LeftParenthesis
-  operand_seen place x us zs e = peek_front marked us e ∙ peek_here marked k.LeftParenthesis (Where place) (written_expr marked x ++ bare marked k.RightParenthesis ∷ zs)
-
-  application_again : (function : Function) (place : Place) (x : Expr) (fs zs : List Form) → height x + 1 ≤ levels → Layered x → IsUpTo layer.Expression x → fs ≡ from_operand place x zs → Reaches (application marked below levels function) fs (measure (written.applied function place x)) zs
-  unfolding application hidden-the_row-Expr-0 hidden
-  application_again function place x fs zs low l r e =
-      let some : 0 < levels = omega arith in
-      reaches_deeper some
-      (reaches_bind _ (reaches_expect_place marked k.LeftParenthesis e) (λ us a.
-      reaches_bind _ (again some layer.Expression x us (bare marked k.RightParenthesis ∷ zs) (omega arith) l r (bare_free marked k.RightParenthesis zs refl) a) (λ vs b.
-      reaches_bind _ (reaches_expect marked k.RightParenthesis b) (λ ws d. reaches_pure d))))
-
-  applied_again : (name : Identifier) (form : FunctionForm) (place : Place) (x : Expr) (fs zs : List Form) → height x + 1 ≤ levels → Layered x → IsUpTo layer.Expression x → fs ≡ named marked name ∷ (written_form marked form ++ from_operand place x zs)
-      → Reaches (with_identifier marked below levels) fs (measure (written.applied (function_of name form) place x)) zs
-  unfolding with_identifier with_apostrophe attribute
-  applied_again name (forms.Simple) place x fs zs low l r e =
-      reaches_bind _ (reaches_identifier marked e) (λ us a.
-      reaches_choose (peek marked) (with_identifier_by marked below levels name) (Some k.LeftParenthesis) (operand_seen place x us zs a) (application_again (function_of name forms.Simple) place x us zs low l r a))
-  applied_again name (forms.Attribute designator) place x fs zs low l r e =
-      reaches_bind _ (reaches_identifier marked e) (λ us a.
-      reaches_choose (peek marked) (with_identifier_by marked below levels name) (Some k.Apostrophe) (peek_front marked us a ∙ peek_here marked k.Apostrophe Nothing (named marked designator ∷ from_operand place x zs))
-      (reaches_bind _ (reaches_expect marked k.Apostrophe a) (λ vs b.
-      reaches_choose (peek marked) (with_apostrophe_by marked below levels name) (Some k.Identifier) (peek_front marked vs b ∙ peek_here marked k.Identifier (Spelled designator.text designator.place) (from_operand place x zs))
-      (reaches_bind _ (reaches_identifier marked b) (λ ws d.
-      reaches_choose (peek marked) (attribute_by marked below levels name designator) (Some k.LeftParenthesis) (operand_seen place x ws zs d) (application_again (function_of name (forms.Attribute designator)) place x ws zs low l r d))))))
-  applied_again name (forms.Qualified) place x fs zs low l r e =
-      reaches_bind _ (reaches_identifier marked e) (λ us a.
-      reaches_choose (peek marked) (with_identifier_by marked below levels name) (Some k.Apostrophe) (peek_front marked us a ∙ peek_here marked k.Apostrophe Nothing (from_operand place x zs))
-      (reaches_bind _ (reaches_expect marked k.Apostrophe a) (λ vs b.
-      reaches_choose (peek marked) (with_apostrophe_by marked below levels name) (Some k.LeftParenthesis) (operand_seen place x vs zs b) (application_again (function_of name forms.Qualified) place x vs zs low l r b))))
-
-  entry_again : (x : Identifier) (fs zs : List Form) → fs ≡ named marked x ∷ bare marked k.Tilde ∷ zs → Reaches (with_identifier marked below levels) fs (measure (expr.Entry x)) zs
-  unfolding with_identifier entry
-  entry_again x fs zs e =
-      reaches_bind _ (reaches_identifier marked e) (λ us a.
-      reaches_choose (peek marked) (with_identifier_by marked below levels x) (Some k.Tilde) (peek_front marked us a ∙ peek_here marked k.Tilde Nothing zs)
-      (reaches_bind _ (reaches_expect marked k.Tilde a) (λ vs b. reaches_pure b)))
-
-  applied_flat : (f p w zs : List Form) → (f ++ (p ++ (w ++ bare marked k.RightParenthesis ∷ []))) ++ zs ≡ f ++ (p ++ (w ++ bare marked k.RightParenthesis ∷ zs))
-  applied_flat f p w zs = simp append_assoc
+      reaches_bind _ (reaches_expect marked k.RightParenthesis b) (λ ws d.
+      reaches_is (ap (λ (h : ℕ). record { expr = expr.Parenthesized place inner; height = h }) (sym (parenthesized_height place inner))) (reaches_pure d)))))
 
   -- ---- primaries
 
-  primary_again : Again marked (primary marked below levels) levels layer.Primary
+  number_again : (value : ℤ) (place : Place) → Told marked (primary marked below levels) levels layer.Primary (expr.Number value place)
   unfolding primary literal
-  primary_again (expr.Number value place) fs zs low l r free e =
-      reaches_choose (peek marked) (primary_by marked below levels) (Some k.Number) (peek_front marked fs e ∙ peek_here marked k.Number (Valued value place) zs)
-      (reaches_bind _ (reaches_number marked e) (λ us a. reaches_pure a))
-  primary_again (expr.Name x) fs zs low l r free e =
-      reaches_choose (peek marked) (primary_by marked below levels) (Some k.Identifier) (peek_front marked fs e ∙ name_front marked x zs)
-      (plain_again x fs zs free e)
-  primary_again (expr.Entry x) fs zs low l r free e =
-      reaches_choose (peek marked) (primary_by marked below levels) (Some k.Identifier) (peek_front marked fs e ∙ peek_here marked k.Identifier (Spelled x.text x.place) (bare marked k.Tilde ∷ zs))
-      (entry_again x fs zs e)
-  primary_again (written.applied function place x) fs zs low l r free e =
-      let flat = e ∙ ap (λ (us : List Form). named marked function.name ∷ us) (applied_flat (written_form marked function.form) (placed marked k.LeftParenthesis place ∷ []) (written_expr marked x) zs) in
-      reaches_choose (peek marked) (primary_by marked below levels) (Some k.Identifier) (peek_front marked fs flat ∙ peek_here marked k.Identifier (Spelled function.name.text function.name.place) (written_form marked function.form ++ from_operand place x zs))
-      (applied_again function.name function.form place x fs zs low l.0 l.1 flat)
-  primary_again (parenthesized place inner) fs zs low l r free e =
-      let flat = e ∙ ap (λ (us : List Form). placed marked k.LeftParenthesis place ∷ us) (append_assoc (written_expr marked inner) (bare marked k.RightParenthesis ∷ []) zs) in
+  number_again value place fs zs low l r free e =
+      let flat = e ∙ ap (λ (us : List Form). us ++ zs) (text_of marked (expr.Number value place) (Expr-F.Number value place) (outs-Number value place)) in
+      reaches_choose (peek marked) (primary_by marked below levels) (Some k.Number) (peek_front marked fs flat ∙ peek_here marked k.Number (Valued value place) zs)
+      (reaches_bind _ (reaches_number marked flat) (λ us a. reaches_is (ap (λ (h : ℕ). record { expr = expr.Number value place; height = h }) (sym (number_height value place))) (reaches_pure a)))
+
+  named_again : (path : Path) (parts : List Expr) → Told marked (primary marked below levels) levels layer.Primary (expr.Name path parts)
+  unfolding primary
+  named_again path parts fs zs low l r free e =
+      let flat = e ∙ ap (λ (us : List Form). us ++ zs) (name_text marked path parts) in
+      let f = name_parts path parts l in
+      let h = name_height path parts in
+      reaches_choose (peek marked) (primary_by marked below levels) (Some k.Identifier) (peek_front marked fs flat ∙ peek_here marked k.Identifier (Spelled path.root.text path.root.place) (written_steps marked path.steps (map (written_expr marked) parts) ++ zs))
+      (primary_reached marked below levels part_shrinks named_shrinks name_shrinks again path parts fs zs f.0 f.1 (omega arith) free flat)
+
+  enclosed_again : (place : Place) (inner : Expr) → Told marked (primary marked below levels) levels layer.Primary (expr.Parenthesized place inner)
+  unfolding primary
+  enclosed_again place inner fs zs low l r free e =
+      let h = parenthesized_height place inner in
+      let flat = e ∙ ap (λ (us : List Form). us ++ zs) (enclosed_text marked place inner) ∙ ap (λ (us : List Form). placed marked k.LeftParenthesis place ∷ us) (append_assoc (written_expr marked inner) (bare marked k.RightParenthesis ∷ []) zs) in
       reaches_choose (peek marked) (primary_by marked below levels) (Some k.LeftParenthesis) (peek_front marked fs flat ∙ peek_here marked k.LeftParenthesis (Where place) (written_expr marked inner ++ bare marked k.RightParenthesis ∷ zs))
-      (parentheses_again place inner fs zs low l flat)
-  primary_again (written.signed o place operand) fs zs low l r free e = let h = some_before o in absurd (omega arith)
-  primary_again (written.operation o place x y) fs zs low l r free e = let h = some_rank o in absurd (omega arith)
-  primary_again (written.in_type o place x type_name) fs zs low l r free e = absurd (omega arith)
-  primary_again (written.in_range o place x a b) fs zs low l r free e = absurd (omega arith)
+      (parentheses_again place inner fs zs (omega arith) (enclosed_parts place inner l) flat)
+
+  primary_again : Again marked (primary marked below levels) levels layer.Primary
+  primary_again = by_form (Told marked (primary marked below levels) levels layer.Primary) number_again named_again enclosed_again
+      (λ o place x fs zs low l r free e. let h = some_before o in let a = ap rank (prefix_layer o place x) in absurd (omega arith))
+      (λ o place x y fs zs low l r free e. let h = some_rank o in let a = ap rank (infix_layer o place x y) in absurd (omega arith))
+      (λ o place x path parts fs zs low l r free e. let a = ap rank (in_type_layer o place x path parts) in absurd (omega arith))
+      (λ o place x a b fs zs low l r free e. let c = ap rank (in_range_layer o place x a b) in absurd (omega arith))
 
   -- ---- operators
 
   operated_again : (o : PrefixOp) (place : Place) (x : Expr) (fs zs : List Form) → height x + 1 ≤ levels → Layered x → IsUpTo (operand_layer o) x → Free (operand_layer o) (peek marked zs) → fs ≡ placed marked (sign_kind o) place ∷ (written_expr marked x ++ zs)
-      → Reaches (operated marked below levels o) fs (measure (written.signed o place x)) zs
-  unfolding operated hidden-the_row-Expr-0 hidden
+      → Reaches (operated marked below levels o) fs (measure (expr.Prefix o place x)) zs
+  unfolding operated
   operated_again o place x fs zs low l r free e =
       let some : 0 < levels = omega arith in
       reaches_deeper some
       (reaches_bind _ (reaches_expect_place marked (sign_kind o) e) (λ us a.
-      reaches_bind _ (again some (operand_layer o) x us zs (omega arith) l r free a) (λ vs b. reaches_pure b)))
+      reaches_bind _ (again some (operand_layer o) x us zs (omega arith) l r free a) (λ vs b.
+      reaches_is (ap (λ (h : ℕ). record { expr = expr.Prefix o place x; height = h }) (sym (prefix_height o place x))) (reaches_pure b))))
 
   -- an operator and its right operand, and what stands after them
   abbrev from_operator : InfixOp → Place → Expr → List Form → List Form
@@ -518,19 +445,24 @@ module _ (marked : Bool) (below : Layer → Reader Tall) (levels : ℕ) (shrinks
   operator_strength : (o : InfixOp) (place : Place) (y : Expr) (zs : List Form) → strength (peek marked (from_operator o place y zs)) ≡ rank (layer_of o)
   operator_strength o place y zs = ap strength (operator_seen o place y zs) ∙ op_strength o
 
-  flat : (o : InfixOp) (place : Place) (x y : Expr) (zs : List Form) → written_expr marked (written.operation o place x y) ++ zs ≡ written_expr marked x ++ from_operator o place y zs
+  flat : (o : InfixOp) (place : Place) (x y : Expr) (zs : List Form) → written_expr marked (expr.Infix o place x y) ++ zs ≡ written_expr marked x ++ from_operator o place y zs
   flat o place x y zs =
-      append_assoc (written_expr marked x) (written_operator marked o place ++ written_expr marked y) zs ∙ ap (λ (us : List Form). written_expr marked x ++ us) (append_assoc (written_operator marked o place) (written_expr marked y) zs)
+      ap (λ (us : List Form). us ++ zs) (infix_text marked o place x y)
+      ∙ append_assoc (written_expr marked x) (written_operator marked o place ++ written_expr marked y) zs ∙ ap (λ (us : List Form). written_expr marked x ++ us) (append_assoc (written_operator marked o place) (written_expr marked y) zs)
+
+  -- the text of an operator and its operand
+  prefix_flat : (o : PrefixOp) (place : Place) (x : Expr) (zs : List Form) → written_expr marked (expr.Prefix o place x) ++ zs ≡ placed marked (sign_kind o) place ∷ (written_expr marked x ++ zs)
+  prefix_flat o place x zs = ap (λ (us : List Form). us ++ zs) (prefixed_text marked o place x)
 
   joined_again : (o : InfixOp) (place : Place) (x y : Expr) (fs zs : List Form) → max (height x) (height y) + 1 ≤ levels → Layered y → IsUpTo (right_layer (layer_of o)) y → Free (right_layer (layer_of o)) (peek marked zs)
-      → fs ≡ from_operator o place y zs → Reaches (joined_by marked below levels o (measure x)) fs (measure (written.operation o place x y)) zs
-  unfolding joined_by hidden-the_row-Expr-0 hidden
+      → fs ≡ from_operator o place y zs → Reaches (joined_by marked below levels o (measure x)) fs (measure (expr.Infix o place x y)) zs
+  unfolding joined_by
   joined_again o place x y fs zs low l r free e =
       let below_x : height x < levels = omega arith in
       reaches_deeper below_x
       (reaches_bind _ (reaches_expect_place marked (operator_kind o) e) (λ us a.
       reaches_bind _ (second_again marked o us (written_expr marked y ++ zs) a) (λ vs b.
-      reaches_bind _ (again (omega arith) (right_layer (layer_of o)) y vs zs (omega arith) l r free b) (λ ws d. reaches_pure d))))
+      reaches_bind _ (again (omega arith) (right_layer (layer_of o)) y vs zs (omega arith) l r free b) (λ ws d. reaches_is (joined_measure o place x y) (reaches_pure d)))))
 
   -- ---- factors
 
@@ -541,23 +473,25 @@ module _ (marked : Bool) (below : Layer → Reader Tall) (levels : ℕ) (shrinks
       reaches_choose (peek marked) (λ kind. power_by marked below levels (measure x) (power_of kind)) (peek marked zs) (peek_front marked us a)
       (subst (λ (o : Option InfixOp). Reaches (power_by marked below levels (measure x) o) us (measure x) zs) (sym (no_power (peek marked zs) free)) (reaches_pure a)))
 
-  power_joined : (o : InfixOp) (place : Place) (x y : Expr) (fs zs : List Form) → layer_of o ≡ layer.Factor → height (written.operation o place x y) ≤ levels → Layered (written.operation o place x y) → Free layer.Factor (peek marked zs)
-      → fs ≡ written_expr marked (written.operation o place x y) ++ zs → Reaches (power marked below levels) fs (measure (written.operation o place x y)) zs
+  power_joined : (o : InfixOp) (place : Place) (x y : Expr) (fs zs : List Form) → layer_of o ≡ layer.Factor → height (expr.Infix o place x y) ≤ levels → Layered (expr.Infix o place x y) → Free layer.Factor (peek marked zs)
+      → fs ≡ written_expr marked (expr.Infix o place x y) ++ zs → Reaches (power marked below levels) fs (measure (expr.Infix o place x y)) zs
   unfolding power
   power_joined o place x y fs zs is low l free e =
+      let h = infix_height o place x y in
+      let q = infix_parts o place x y l in
       let low_x : height x ≤ levels = omega arith in
       let s = operator_strength o place y zs ∙ ap rank is in
       let right = ap (λ (a : Layer). rank (right_layer a)) is in
-      reaches_bind _ (primary_again x fs (from_operator o place y zs) low_x l.0 (subst (λ (a : Layer). FitsLeft a o x) is l.2) (omega arith) (e ∙ flat o place x y zs)) (λ us a.
+      reaches_bind _ (primary_again x fs (from_operator o place y zs) low_x q.0 (subst (λ (a : Layer). FitsLeft a o x) is q.2) (omega arith) (e ∙ flat o place x y zs)) (λ us a.
       reaches_choose (peek marked) (λ kind. power_by marked below levels (measure x) (power_of kind)) (Some (operator_kind o)) (peek_front marked us a ∙ operator_seen o place y zs)
-      (subst (λ (p : Option InfixOp). Reaches (power_by marked below levels (measure x) p) us (measure (written.operation o place x y)) zs) (sym (power_self o is)) (joined_again o place x y us zs low l.1 l.3 (omega arith) a)))
+      (subst (λ (p : Option InfixOp). Reaches (power_by marked below levels (measure x) p) us (measure (expr.Infix o place x y)) zs) (sym (power_self o is)) (joined_again o place x y us zs (omega arith) q.1 q.3 (omega arith) a)))
 
   wordless_factor : (x : Expr) (fs zs : List Form) → abs_or_not (Some (front_kind x)) ≡ None → fs ≡ written_expr marked x ++ zs → Reaches (power marked below levels) fs (measure x) zs → Reaches (factor marked below levels) fs (measure x) zs
   unfolding factor
   wordless_factor x fs zs none e r = reaches_choose (λ us. abs_or_not (peek marked us)) (factor_by marked below levels) None (ap abs_or_not (peek_front marked fs e ∙ front marked x zs) ∙ none) r
 
   word_factor : (o : PrefixOp) (place : Place) (x : Expr) (fs zs : List Form) → abs_or_not (Some (sign_kind o)) ≡ Some o → height x + 1 ≤ levels → Layered x → IsUpTo (operand_layer o) x → Free (operand_layer o) (peek marked zs)
-      → fs ≡ placed marked (sign_kind o) place ∷ (written_expr marked x ++ zs) → Reaches (factor marked below levels) fs (measure (written.signed o place x)) zs
+      → fs ≡ placed marked (sign_kind o) place ∷ (written_expr marked x ++ zs) → Reaches (factor marked below levels) fs (measure (expr.Prefix o place x)) zs
   unfolding factor
   word_factor o place x fs zs self low l r free e =
       reaches_choose (λ us. abs_or_not (peek marked us)) (factor_by marked below levels) (Some o) (ap abs_or_not (peek_front marked fs e ∙ peek_here marked (sign_kind o) (Where place) (written_expr marked x ++ zs)) ∙ self)
@@ -567,32 +501,33 @@ module _ (marked : Bool) (below : Layer → Reader Tall) (levels : ℕ) (shrinks
   plain_factor x fs zs low l r free e = wordless_factor x fs zs (wordless x r) e (power_plain x fs zs low l r free e)
 
   factor_again : Again marked (factor marked below levels) levels layer.Factor
-  factor_again (written.operation o place x y) fs zs low l r free e =
-      elim (layers layer.Factor (layer_of o) r) [
-        | inl is ↦ wordless_factor (written.operation o place x y) fs zs (wordless x (subst (λ (a : Layer). FitsLeft a o x) is l.2)) e (power_joined o place x y fs zs is low l free e)
-        | inr lower ↦ let h = some_rank o in absurd (omega arith)
-      ]
-  factor_again (written.signed o place x) fs zs low l r free e =
+  factor_again = by_kind (Told marked (factor marked below levels) levels layer.Factor)
+      (λ x p fs zs low l r free e. plain_factor x fs zs low l (omega arith) free e)
+      (λ o place x fs zs low l r free e.
+      let a = ap rank (prefix_layer o place x) in
+      let h = prefix_height o place x in
+      let q = prefix_parts o place x l in
       elim (before_cases o) [
         | inl is ↦ let h = ap rank is.0 in absurd (omega arith)
-        | inr is ↦ let h = ap rank is.1 in word_factor o place x fs zs is.3 low l.0 l.1 (omega arith) e
-      ]
-  factor_again (written.applied function place x) fs zs low l r free e = plain_factor (written.applied function place x) fs zs low l (omega arith) free e
-  factor_again (parenthesized place inner) fs zs low l r free e = plain_factor (parenthesized place inner) fs zs low l (omega arith) free e
-  factor_again (expr.Number value place) fs zs low l r free e = plain_factor (expr.Number value place) fs zs low l (omega arith) free e
-  factor_again (expr.Name x) fs zs low l r free e = plain_factor (expr.Name x) fs zs low l (omega arith) free e
-  factor_again (expr.Entry x) fs zs low l r free e = plain_factor (expr.Entry x) fs zs low l (omega arith) free e
-  factor_again (written.in_type o place x type_name) fs zs low l r free e = absurd (omega arith)
-  factor_again (written.in_range o place x a b) fs zs low l r free e = absurd (omega arith)
+        | inr is ↦ let g = ap rank is.1 in word_factor o place x fs zs is.3 (omega arith) q.0 q.1 (omega arith) (e ∙ prefix_flat o place x zs)
+      ])
+      (λ o place x y fs zs low l r free e.
+      let a = ap rank (infix_layer o place x y) in
+      elim (layers layer.Factor (layer_of o) (omega arith)) [
+        | inl is ↦ wordless_factor (expr.Infix o place x y) fs zs (ap (λ (j : Kind). abs_or_not (Some j)) (infix_front o place x y) ∙ wordless x (subst (λ (b : Layer). FitsLeft b o x) is (infix_parts o place x y l).2)) e (power_joined o place x y fs zs is low l free e)
+        | inr lower ↦ let h = some_rank o in absurd (omega arith)
+      ])
+      (λ o place x path parts fs zs low l r free e. let a = ap rank (in_type_layer o place x path parts) in absurd (omega arith))
+      (λ o place x a b fs zs low l r free e. let c = ap rank (in_range_layer o place x a b) in absurd (omega arith))
 
   -- ---- chains
 
   -- what was read up to the left operand, and what goes on from there
   linked : (c : Chain) (o : InfixOp) (place : Place) (x y : Expr) (out : Outcome Tall) (zs : List Form) → goes_on c (Some (operator_kind o)) ≡ Some o → max (height x) (height y) + 1 ≤ levels → Layered y → IsUpTo (right_layer (layer_of o)) y
-      → Free (right_layer (layer_of o)) (peek marked zs) → out ≡ chained marked below levels c (measure x) (from_operator o place y zs) → out ≡ chained marked below levels c (measure (written.operation o place x y)) zs
+      → Free (right_layer (layer_of o)) (peek marked zs) → out ≡ chained marked below levels c (measure x) (from_operator o place y zs) → out ≡ chained marked below levels c (measure (expr.Infix o place x y)) zs
   unfolding chained
   linked c o place x y out zs self low l r free goes =
-      goes ∙ loop_turn (peek marked) (chain_step marked below levels c) (shrinks c) (measure x) (measure (written.operation o place x y)) (from_operator o place y zs) zs (joined_by marked below levels o (measure x))
+      goes ∙ loop_turn (peek marked) (chain_step marked below levels c) (shrinks c) (measure x) (measure (expr.Infix o place x y)) (from_operator o place y zs) zs (joined_by marked below levels o (measure x))
       (ap (step_by marked below levels (measure x)) (ap (goes_on c) (operator_seen o place y zs) ∙ self)) (joined_again o place x y (from_operator o place y zs) zs low l r free refl).is
 
   over : (c : Chain) (x : Expr) (zs : List Form) → Free (chain_layer c) (peek marked zs) → chained marked below levels c (measure x) zs ≡ Ok (measure x, zs)
@@ -605,27 +540,37 @@ module _ (marked : Bool) (below : Layer → Reader Tall) (levels : ℕ) (shrinks
   unfolding term
   term_base x fs zs low l r free e = ap (λ (out : Outcome Tall). and_then out (chained marked below levels chain.Multiplying)) (factor_again x fs zs low l r free e).is
 
-  term_case : (o : InfixOp) (place : Place) (x y : Expr) (fs zs : List Form) → height (written.operation o place x y) ≤ levels → Layered (written.operation o place x y) → Free layer.Factor (peek marked zs) → fs ≡ written_expr marked (written.operation o place x y) ++ zs
+  term_case : (o : InfixOp) (place : Place) (x y : Expr) (fs zs : List Form) → height (expr.Infix o place x y) ≤ levels → Layered (expr.Infix o place x y) → Free layer.Factor (peek marked zs) → fs ≡ written_expr marked (expr.Infix o place x y) ++ zs
       → (layer_of o ≡ layer.Term) ⊎ (rank (layer_of o) < 2) → (rank (layer_in x) ≤ 2 → Free layer.Factor (peek marked (from_operator o place y zs)) → term marked below levels fs ≡ chained marked below levels chain.Multiplying (measure x) (from_operator o place y zs))
-      → term marked below levels fs ≡ chained marked below levels chain.Multiplying (measure (written.operation o place x y)) zs
+      → term marked below levels fs ≡ chained marked below levels chain.Multiplying (measure (expr.Infix o place x y)) zs
   term_case o place x y fs zs low l free e (inl is) left =
       let s = operator_strength o place y zs ∙ ap rank is in
       let right = ap (λ (a : Layer). rank (right_layer a)) is in
-      linked chain.Multiplying o place x y (term marked below levels fs) zs (term_self o is) low l.1 l.3 (omega arith) (left (subst (λ (a : Layer). FitsLeft a o x) is l.2) (omega arith))
-  term_case o place x y fs zs low l free e (inr lower) left = term_base (written.operation o place x y) fs zs low l (omega arith) free e
+      let h = infix_height o place x y in
+      let q = infix_parts o place x y l in
+      linked chain.Multiplying o place x y (term marked below levels fs) zs (term_self o is) (omega arith) q.1 q.3 (omega arith) (left (subst (λ (a : Layer). FitsLeft a o x) is q.2) (omega arith))
+  term_case o place x y fs zs low l free e (inr lower) left = let a = ap rank (infix_layer o place x y) in term_base (expr.Infix o place x y) fs zs low l (omega arith) free e
 
-  term_goes : (x : Expr) (fs zs : List Form) → height x ≤ levels → Layered x → rank (layer_in x) ≤ 2 → Free layer.Factor (peek marked zs) → fs ≡ written_expr marked x ++ zs → term marked below levels fs ≡ chained marked below levels chain.Multiplying (measure x) zs
-  term_goes (written.operation o place x y) fs zs low l r free e =
+  -- a term is read as a chain
+  abbrev TermGoes : Expr → Type 0
+  TermGoes x = (fs zs : List Form) → height x ≤ levels → Layered x → rank (layer_in x) ≤ 2 → Free layer.Factor (peek marked zs) → fs ≡ written_expr marked x ++ zs → term marked below levels fs ≡ chained marked below levels chain.Multiplying (measure x) zs
+
+  abbrev TermRest : Expr → Type 0
+  TermRest x = ((z : Expr) → height z < height x → TermGoes z) → TermGoes x
+
+  term_goes : (x : Expr) → TermGoes x
+  term_goes = by_height TermGoes (by_kind TermRest
+      (λ x p rest fs zs low l r free e. term_base x fs zs low l (omega arith) free e)
+      (λ o place x rest fs zs low l r free e.
+      let a = ap rank (prefix_layer o place x) in
+      term_base (expr.Prefix o place x) fs zs low l (elim (before_cases o) [ inl is ↦ let h = ap rank is.0 in absurd (omega arith) | inr is ↦ let h = ap rank is.0 in omega arith ]) free e)
+      (λ o place x y rest fs zs low l r free e.
+      let a = ap rank (infix_layer o place x y) in
+      let g = infix_height o place x y in
       let low_x : height x ≤ levels = omega arith in
-      term_case o place x y fs zs low l free e (layers layer.Term (layer_of o) r) (λ h f. term_goes x fs (from_operator o place y zs) low_x l.0 h f (e ∙ flat o place x y zs))
-  term_goes (written.signed o place x) fs zs low l r free e = term_base (written.signed o place x) fs zs low l (elim (before_cases o) [ inl is ↦ let h = ap rank is.0 in absurd (omega arith) | inr is ↦ let h = ap rank is.0 in omega arith ]) free e
-  term_goes (written.applied function place x) fs zs low l r free e = term_base (written.applied function place x) fs zs low l (omega arith) free e
-  term_goes (parenthesized place inner) fs zs low l r free e = term_base (parenthesized place inner) fs zs low l (omega arith) free e
-  term_goes (expr.Number value place) fs zs low l r free e = term_base (expr.Number value place) fs zs low l (omega arith) free e
-  term_goes (expr.Name x) fs zs low l r free e = term_base (expr.Name x) fs zs low l (omega arith) free e
-  term_goes (expr.Entry x) fs zs low l r free e = term_base (expr.Entry x) fs zs low l (omega arith) free e
-  term_goes (written.in_type o place x type_name) fs zs low l r free e = absurd (omega arith)
-  term_goes (written.in_range o place x a b) fs zs low l r free e = absurd (omega arith)
+      term_case o place x y fs zs low l free e (layers layer.Term (layer_of o) (omega arith)) (λ h f. rest x (infix_less o place x y) fs (from_operator o place y zs) low_x (infix_parts o place x y l).0 h f (e ∙ flat o place x y zs)))
+      (λ o place x path parts rest fs zs low l r free e. let a = ap rank (in_type_layer o place x path parts) in absurd (omega arith))
+      (λ o place x a b rest fs zs low l r free e. let c = ap rank (in_range_layer o place x a b) in absurd (omega arith)))
 
   term_again : Again marked (term marked below levels) levels layer.Term
   term_again x fs zs low l r free e = record { is = term_goes x fs zs low l r (omega arith) e ∙ over chain.Multiplying x zs free }
@@ -638,7 +583,7 @@ module _ (marked : Bool) (below : Layer → Reader Tall) (levels : ℕ) (shrinks
       reaches_choose (λ us. sign_of (peek marked us)) (signed_by marked below levels) None (ap sign_of (peek_front marked fs e ∙ front marked x zs) ∙ unsigned x l r) (term_again x fs zs low l r free e)
 
   signed_term : (o : PrefixOp) (place : Place) (x : Expr) (fs zs : List Form) → sign_of (Some (sign_kind o)) ≡ Some o → height x + 1 ≤ levels → Layered x → IsUpTo (operand_layer o) x → Free (operand_layer o) (peek marked zs)
-      → fs ≡ placed marked (sign_kind o) place ∷ (written_expr marked x ++ zs) → Reaches (signed marked below levels) fs (measure (written.signed o place x)) zs
+      → fs ≡ placed marked (sign_kind o) place ∷ (written_expr marked x ++ zs) → Reaches (signed marked below levels) fs (measure (expr.Prefix o place x)) zs
   unfolding signed
   signed_term o place x fs zs self low l r free e =
       reaches_choose (λ us. sign_of (peek marked us)) (signed_by marked below levels) (Some o) (ap sign_of (peek_front marked fs e ∙ peek_here marked (sign_kind o) (Where place) (written_expr marked x ++ zs)) ∙ self)
@@ -651,58 +596,82 @@ module _ (marked : Bool) (below : Layer → Reader Tall) (levels : ℕ) (shrinks
   sum_base : (x : Expr) (fs zs : List Form) → height x ≤ levels → Layered x → rank (layer_in x) ≤ 2 → Free layer.Term (peek marked zs) → fs ≡ written_expr marked x ++ zs → sum marked below levels fs ≡ chained marked below levels chain.Adding (measure x) zs
   sum_base x fs zs low l r free e = sum_from x fs zs (signed_plain x fs zs low l r free e)
 
-  sum_case : (o : InfixOp) (place : Place) (x y : Expr) (fs zs : List Form) → height (written.operation o place x y) ≤ levels → Layered (written.operation o place x y) → Free layer.Term (peek marked zs) → fs ≡ written_expr marked (written.operation o place x y) ++ zs
+  sum_case : (o : InfixOp) (place : Place) (x y : Expr) (fs zs : List Form) → height (expr.Infix o place x y) ≤ levels → Layered (expr.Infix o place x y) → Free layer.Term (peek marked zs) → fs ≡ written_expr marked (expr.Infix o place x y) ++ zs
       → (layer_of o ≡ layer.Sum) ⊎ (rank (layer_of o) < 3) → (rank (layer_in x) ≤ 3 → Free layer.Term (peek marked (from_operator o place y zs)) → sum marked below levels fs ≡ chained marked below levels chain.Adding (measure x) (from_operator o place y zs))
-      → sum marked below levels fs ≡ chained marked below levels chain.Adding (measure (written.operation o place x y)) zs
+      → sum marked below levels fs ≡ chained marked below levels chain.Adding (measure (expr.Infix o place x y)) zs
   sum_case o place x y fs zs low l free e (inl is) left =
       let s = operator_strength o place y zs ∙ ap rank is in
       let right = ap (λ (a : Layer). rank (right_layer a)) is in
-      linked chain.Adding o place x y (sum marked below levels fs) zs (sum_self o is) low l.1 l.3 (omega arith) (left (subst (λ (a : Layer). FitsLeft a o x) is l.2) (omega arith))
-  sum_case o place x y fs zs low l free e (inr lower) left = sum_base (written.operation o place x y) fs zs low l (omega arith) free e
+      let h = infix_height o place x y in
+      let q = infix_parts o place x y l in
+      linked chain.Adding o place x y (sum marked below levels fs) zs (sum_self o is) (omega arith) q.1 q.3 (omega arith) (left (subst (λ (a : Layer). FitsLeft a o x) is q.2) (omega arith))
+  sum_case o place x y fs zs low l free e (inr lower) left = let a = ap rank (infix_layer o place x y) in sum_base (expr.Infix o place x y) fs zs low l (omega arith) free e
 
-  sum_goes : (x : Expr) (fs zs : List Form) → height x ≤ levels → Layered x → rank (layer_in x) ≤ 3 → Free layer.Term (peek marked zs) → fs ≡ written_expr marked x ++ zs → sum marked below levels fs ≡ chained marked below levels chain.Adding (measure x) zs
-  sum_goes (written.operation o place x y) fs zs low l r free e =
-      let low_x : height x ≤ levels = omega arith in
-      sum_case o place x y fs zs low l free e (layers layer.Sum (layer_of o) r) (λ h f. sum_goes x fs (from_operator o place y zs) low_x l.0 h f (e ∙ flat o place x y zs))
-  sum_goes (written.signed o place x) fs zs low l r free e =
+  -- a sum is read as a chain
+  abbrev SumGoes : Expr → Type 0
+  SumGoes x = (fs zs : List Form) → height x ≤ levels → Layered x → rank (layer_in x) ≤ 3 → Free layer.Term (peek marked zs) → fs ≡ written_expr marked x ++ zs → sum marked below levels fs ≡ chained marked below levels chain.Adding (measure x) zs
+
+  abbrev SumRest : Expr → Type 0
+  SumRest x = ((z : Expr) → height z < height x → SumGoes z) → SumGoes x
+
+  sum_goes : (x : Expr) → SumGoes x
+  sum_goes = by_height SumGoes (by_kind SumRest
+      (λ x p rest fs zs low l r free e. sum_base x fs zs low l (omega arith) free e)
+      (λ o place x rest fs zs low l r free e.
+      let a = ap rank (prefix_layer o place x) in
+      let h = prefix_height o place x in
+      let q = prefix_parts o place x l in
       elim (before_cases o) [
-        | inl is ↦ let h = ap rank is.1 in sum_from (written.signed o place x) fs zs (signed_term o place x fs zs is.2 low l.0 l.1 (omega arith) e)
-        | inr is ↦ let h = ap rank is.0 in sum_base (written.signed o place x) fs zs low l (omega arith) free e
-      ]
-  sum_goes (written.applied function place x) fs zs low l r free e = sum_base (written.applied function place x) fs zs low l (omega arith) free e
-  sum_goes (parenthesized place inner) fs zs low l r free e = sum_base (parenthesized place inner) fs zs low l (omega arith) free e
-  sum_goes (expr.Number value place) fs zs low l r free e = sum_base (expr.Number value place) fs zs low l (omega arith) free e
-  sum_goes (expr.Name x) fs zs low l r free e = sum_base (expr.Name x) fs zs low l (omega arith) free e
-  sum_goes (expr.Entry x) fs zs low l r free e = sum_base (expr.Entry x) fs zs low l (omega arith) free e
-  sum_goes (written.in_type o place x type_name) fs zs low l r free e = absurd (omega arith)
-  sum_goes (written.in_range o place x a b) fs zs low l r free e = absurd (omega arith)
+        | inl is ↦ let g = ap rank is.1 in sum_from (expr.Prefix o place x) fs zs (signed_term o place x fs zs is.2 (omega arith) q.0 q.1 (omega arith) (e ∙ prefix_flat o place x zs))
+        | inr is ↦ let g = ap rank is.0 in sum_base (expr.Prefix o place x) fs zs low l (omega arith) free e
+      ])
+      (λ o place x y rest fs zs low l r free e.
+      let a = ap rank (infix_layer o place x y) in
+      let g = infix_height o place x y in
+      let low_x : height x ≤ levels = omega arith in
+      sum_case o place x y fs zs low l free e (layers layer.Sum (layer_of o) (omega arith)) (λ h f. rest x (infix_less o place x y) fs (from_operator o place y zs) low_x (infix_parts o place x y l).0 h f (e ∙ flat o place x y zs)))
+      (λ o place x path parts rest fs zs low l r free e. let a = ap rank (in_type_layer o place x path parts) in absurd (omega arith))
+      (λ o place x a b rest fs zs low l r free e. let c = ap rank (in_range_layer o place x a b) in absurd (omega arith)))
 
   sum_again : Again marked (sum marked below levels) levels layer.Sum
   sum_again x fs zs low l r free e = record { is = sum_goes x fs zs low l r (omega arith) e ∙ over chain.Adding x zs free }
 
   -- ---- membership tests
 
-  plain_member : (o : MemberOp) (place : Place) (x : Expr) (n : Name) (kind : Option Kind) → 4 < strength kind → member_by marked below levels o place (measure x) (measure (expr.Name n)) kind ≡ type_by o place (measure x) (Some n)
-  plain_member o place x n (Some k.DoubleDot) s = absurd (omega arith)
-  plain_member o place x n _ s = refl
+  plain_member : (o : MemberOp) (place : Place) (x low : Expr) (kind : Option Kind) → 4 < strength kind → member_by marked below levels o place (measure x) (measure low) kind ≡ type_by o place (measure x) (height low) (plain_name low)
+  plain_member o place x low (Some k.DoubleDot) s = absurd (omega arith)
+  plain_member o place x low _ s = refl
 
-  type_again : (o : MemberOp) (place : Place) (x : Expr) (n : Name) (fs zs : List Form) → height x < levels → Free layer.Relation (peek marked zs) → fs ≡ written_name marked n ++ zs → Reaches (member marked below levels o place (measure x)) fs (measure (written.in_type o place x n)) zs
-  unfolding member hidden-the_row-Expr-0 hidden
-  type_again o place x n fs zs low free e =
-      reaches_bind _ (again (omega arith) layer.Sum (expr.Name n) fs zs (omega arith) tt (omega arith) (omega arith) e) (λ us a.
-      reaches_choose (peek marked) (member_by marked below levels o place (measure x) (measure (expr.Name n))) (peek marked zs) (peek_front marked us a)
-      (subst (λ (p : Reader Tall). Reaches p us (measure (written.in_type o place x n)) zs) (sym (plain_member o place x n (peek marked zs) free)) (reaches_pure a)))
+  -- an expression that is a name
+  abbrev name_in : Path → List Expr → Name
+  name_in path parts = record { path = path; parts = parts }
+
+  type_measure : (o : MemberOp) (place : Place) (x : Expr) (path : Path) (parts : List Expr) → in_type_tall o place (measure x) (name_in path parts) (height (expr.Name path parts)) ≡ measure (expr.InType o place x path parts)
+  type_measure o place x path parts =
+      ap (λ (h : ℕ). record { expr = expr.InType o place x path parts; height = h }) (ap (λ (h : ℕ). max (height x) h + 1) (name_height path parts) ∙ sym (in_type_height o place x path parts))
+
+  type_again : (o : MemberOp) (place : Place) (x : Expr) (path : Path) (parts : List Expr) (fs zs : List Form) → max (height x) (height (expr.Name path parts)) + 1 ≤ levels → Layered (expr.Name path parts) → Free layer.Relation (peek marked zs)
+      → fs ≡ written_path marked path (map (written_expr marked) parts) ++ zs → Reaches (member marked below levels o place (measure x)) fs (measure (expr.InType o place x path parts)) zs
+  unfolding member
+  type_again o place x path parts fs zs low l free e =
+      let r = ap rank (name_layer path parts) in
+      let plain = ap name_at (outs-Name path parts) in
+      reaches_bind _ (again (omega arith) layer.Sum (expr.Name path parts) fs zs (omega arith) l (omega arith) (omega arith) (e ∙ ap (λ (us : List Form). us ++ zs) (sym (name_text marked path parts)))) (λ us a.
+      reaches_choose (peek marked) (member_by marked below levels o place (measure x) (measure (expr.Name path parts))) (peek marked zs) (peek_front marked us a)
+      (subst (λ (p : Reader Tall). Reaches p us (measure (expr.InType o place x path parts)) zs) (sym (plain_member o place x (expr.Name path parts) (peek marked zs) free ∙ ap (type_by o place (measure x) (height (expr.Name path parts))) plain))
+      (reaches_is (type_measure o place x path parts) (reaches_pure a))))
 
   range_again : (o : MemberOp) (place : Place) (x a b : Expr) (fs zs : List Form) → max (height x) (max (height a) (height b)) + 1 ≤ levels → Layered a → IsUpTo layer.Sum a → Layered b → IsUpTo layer.Sum b → Free layer.Relation (peek marked zs)
-      → fs ≡ written_expr marked a ++ (bare marked k.DoubleDot ∷ (written_expr marked b ++ zs)) → Reaches (member marked below levels o place (measure x)) fs (measure (written.in_range o place x a b)) zs
-  unfolding member hidden-the_row-Expr-0 hidden
+      → fs ≡ written_expr marked a ++ (bare marked k.DoubleDot ∷ (written_expr marked b ++ zs)) → Reaches (member marked below levels o place (measure x)) fs (measure (expr.InRange o place x a b)) zs
+  unfolding member
   range_again o place x a b fs zs low la ra lb rb free e =
       let seen = peek_here marked k.DoubleDot Nothing (written_expr marked b ++ zs) in
       let s = ap strength seen in
       reaches_bind _ (again (omega arith) layer.Sum a fs (bare marked k.DoubleDot ∷ (written_expr marked b ++ zs)) (omega arith) la ra (omega arith) e) (λ us h.
       reaches_choose (peek marked) (member_by marked below levels o place (measure x) (measure a)) (Some k.DoubleDot) (peek_front marked us h ∙ seen)
       (reaches_bind _ (reaches_expect marked k.DoubleDot h) (λ vs i.
-      reaches_bind _ (again (omega arith) layer.Sum b vs zs (omega arith) lb rb (omega arith) i) (λ ws j. reaches_pure j))))
+      reaches_bind _ (again (omega arith) layer.Sum b vs zs (omega arith) lb rb (omega arith) i) (λ ws j.
+      reaches_is (ap (λ (n : ℕ). record { expr = expr.InRange o place x a b; height = n }) (sym (in_range_height o place x a b))) (reaches_pure j)))))
 
   -- a membership test, where its member is read
   tested_again : (o : MemberOp) (place : Place) (x : Expr) (y : Tall) (fs member_forms zs : List Form) → height x < levels → Layered x → IsUpTo layer.Sum x → fs ≡ written_expr marked x ++ (written_member marked o place ++ member_forms)
@@ -730,42 +699,52 @@ module _ (marked : Bool) (below : Layer → Reader Tall) (levels : ℕ) (shrinks
       reaches_choose (peek marked) (λ kind. relation_by marked below levels (measure x) (relator_of kind)) (peek marked zs) (peek_front marked us a)
       (subst (λ (o : Option Relator). Reaches (relation_by marked below levels (measure x) o) us (measure x) zs) (sym (no_relator (peek marked zs) free)) (reaches_pure a)))
 
-  relation_joined : (o : InfixOp) (place : Place) (x y : Expr) (fs zs : List Form) → layer_of o ≡ layer.Relation → height (written.operation o place x y) ≤ levels → Layered (written.operation o place x y) → Free layer.Relation (peek marked zs)
-      → fs ≡ written_expr marked (written.operation o place x y) ++ zs → Reaches (relation marked below levels) fs (measure (written.operation o place x y)) zs
+  relation_joined : (o : InfixOp) (place : Place) (x y : Expr) (fs zs : List Form) → layer_of o ≡ layer.Relation → height (expr.Infix o place x y) ≤ levels → Layered (expr.Infix o place x y) → Free layer.Relation (peek marked zs)
+      → fs ≡ written_expr marked (expr.Infix o place x y) ++ zs → Reaches (relation marked below levels) fs (measure (expr.Infix o place x y)) zs
   unfolding relation
   relation_joined o place x y fs zs is low l free e =
+      let h = infix_height o place x y in
+      let q = infix_parts o place x y l in
       let low_x : height x ≤ levels = omega arith in
       let s = operator_strength o place y zs ∙ ap rank is in
       let right = ap (λ (a : Layer). rank (right_layer a)) is in
-      reaches_bind _ (sum_again x fs (from_operator o place y zs) low_x l.0 (subst (λ (a : Layer). FitsLeft a o x) is l.2) (omega arith) (e ∙ flat o place x y zs)) (λ us a.
+      reaches_bind _ (sum_again x fs (from_operator o place y zs) low_x q.0 (subst (λ (a : Layer). FitsLeft a o x) is q.2) (omega arith) (e ∙ flat o place x y zs)) (λ us a.
       reaches_choose (peek marked) (λ kind. relation_by marked below levels (measure x) (relator_of kind)) (Some (operator_kind o)) (peek_front marked us a ∙ operator_seen o place y zs)
-      (subst (λ (p : Option Relator). Reaches (relation_by marked below levels (measure x) p) us (measure (written.operation o place x y)) zs) (sym (relation_self o is)) (joined_again o place x y us zs low l.1 l.3 (omega arith) a)))
+      (subst (λ (p : Option Relator). Reaches (relation_by marked below levels (measure x) p) us (measure (expr.Infix o place x y)) zs) (sym (relation_self o is)) (joined_again o place x y us zs (omega arith) q.1 q.3 (omega arith) a)))
+
+  ranged : (t m p q zs : List Form) → (t ++ (m ++ (p ++ bare marked k.DoubleDot ∷ q))) ++ zs ≡ t ++ (m ++ (p ++ (bare marked k.DoubleDot ∷ (q ++ zs))))
+  ranged t m p q zs = simp append_assoc
+
+  typed : (t m p zs : List Form) → (t ++ (m ++ p)) ++ zs ≡ t ++ (m ++ (p ++ zs))
+  typed t m p zs = simp append_assoc
 
   relation_again : Again marked (relation marked below levels) levels layer.Relation
-  relation_again (written.operation o place x y) fs zs low l r free e =
-      elim (layers layer.Relation (layer_of o) r) [
+  relation_again = by_kind (Told marked (relation marked below levels) levels layer.Relation)
+      (λ x p fs zs low l r free e. relation_plain x fs zs low l (omega arith) free e)
+      (λ o place x fs zs low l r free e.
+      let a = ap rank (prefix_layer o place x) in
+      relation_plain (expr.Prefix o place x) fs zs low l (elim (before_cases o) [ inl is ↦ let h = ap rank is.0 in omega arith | inr is ↦ let h = ap rank is.0 in omega arith ]) free e)
+      (λ o place x y fs zs low l r free e.
+      let a = ap rank (infix_layer o place x y) in
+      elim (layers layer.Relation (layer_of o) (omega arith)) [
         | inl is ↦ relation_joined o place x y fs zs is low l free e
-        | inr lower ↦ relation_plain (written.operation o place x y) fs zs low l (omega arith) free e
-      ]
-  relation_again (written.signed o place x) fs zs low l r free e = relation_plain (written.signed o place x) fs zs low l (elim (before_cases o) [ inl is ↦ let h = ap rank is.0 in omega arith | inr is ↦ let h = ap rank is.0 in omega arith ]) free e
-  relation_again (written.applied function place x) fs zs low l r free e = relation_plain (written.applied function place x) fs zs low l (omega arith) free e
-  relation_again (parenthesized place inner) fs zs low l r free e = relation_plain (parenthesized place inner) fs zs low l (omega arith) free e
-  relation_again (expr.Number value place) fs zs low l r free e = relation_plain (expr.Number value place) fs zs low l (omega arith) free e
-  relation_again (expr.Name x) fs zs low l r free e = relation_plain (expr.Name x) fs zs low l (omega arith) free e
-  relation_again (expr.Entry x) fs zs low l r free e = relation_plain (expr.Entry x) fs zs low l (omega arith) free e
-  relation_again (written.in_type o place x n) fs zs low l r free e =
+        | inr lower ↦ relation_plain (expr.Infix o place x y) fs zs low l (omega arith) free e
+      ])
+      (λ o place x path parts fs zs low l r free e.
+      let h = in_type_height o place x path parts in
+      let g = name_height path parts in
+      let q = in_type_parts o place x path parts l in
       let below_x : height x < levels = omega arith in
-      tested_again o place x (measure (written.in_type o place x n)) fs (written_name marked n ++ zs) zs below_x l.0 l.1
-      (e ∙ append_assoc (written_expr marked x) (written_member marked o place ++ written_name marked n) zs ∙ ap (λ (us : List Form). written_expr marked x ++ us) (append_assoc (written_member marked o place) (written_name marked n) zs))
-      (λ us a. type_again o place x n us zs below_x free a)
-  relation_again (written.in_range o place x a b) fs zs low l r free e =
+      tested_again o place x (measure (expr.InType o place x path parts)) fs (written_path marked path (map (written_expr marked) parts) ++ zs) zs below_x q.0.0 q.0.1
+      (e ∙ ap (λ (us : List Form). us ++ zs) (in_type_text marked o place x path parts) ∙ typed (written_expr marked x) (written_member marked o place) (written_path marked path (map (written_expr marked) parts)) zs)
+      (λ us a. type_again o place x path parts us zs (omega arith) q.1.0 free a))
+      (λ o place x a b fs zs low l r free e.
+      let g = in_range_height o place x a b in
+      let q = in_range_parts o place x a b l in
       let below_x : height x < levels = omega arith in
-      tested_again o place x (measure (written.in_range o place x a b)) fs (written_expr marked a ++ (bare marked k.DoubleDot ∷ (written_expr marked b ++ zs))) zs below_x l.0 l.1
-      (e ∙ ranged (written_expr marked x) (written_member marked o place) (written_expr marked a) (written_expr marked b))
-      (λ us h. range_again o place x a b us zs low l.2 l.3 l.4 l.5 free h)
-    where
-      ranged : (t m p q : List Form) → (t ++ (m ++ (p ++ bare marked k.DoubleDot ∷ q))) ++ zs ≡ t ++ (m ++ (p ++ (bare marked k.DoubleDot ∷ (q ++ zs))))
-      ranged t m p q = simp append_assoc
+      tested_again o place x (measure (expr.InRange o place x a b)) fs (written_expr marked a ++ (bare marked k.DoubleDot ∷ (written_expr marked b ++ zs))) zs below_x q.0.0 q.0.1
+      (e ∙ ap (λ (us : List Form). us ++ zs) (in_range_text marked o place x a b) ∙ ranged (written_expr marked x) (written_member marked o place) (written_expr marked a) (written_expr marked b) zs)
+      (λ us h. range_again o place x a b us zs (omega arith) q.1.0 q.1.1 q.2.0 q.2.1 free h))
 
   -- ---- logical operations
 
@@ -777,79 +756,94 @@ module _ (marked : Bool) (below : Layer → Reader Tall) (levels : ℕ) (shrinks
       (subst (λ (o : Option InfixOp). Reaches (opening_by marked below levels (measure x) o) us (measure x, None) zs) (sym (no_logical (peek marked zs) free)) (reaches_pure a)))
 
   combined_again : (o : InfixOp) (place : Place) (x y : Expr) (fs zs : List Form) → layer_of o ≡ layer.Expression → max (height x) (height y) + 1 ≤ levels → Layered y → rank (layer_in y) ≤ 4 → Free layer.Relation (peek marked zs) → fs ≡ from_operator o place y zs
-      → Reaches (combined marked below levels (first_word o) (measure x)) fs (measure (written.operation o place x y), Some o) zs
-  unfolding combined hidden-the_row-Expr-0 hidden
+      → Reaches (combined marked below levels (first_word o) (measure x)) fs (measure (expr.Infix o place x y), Some o) zs
+  unfolding combined
   combined_again o place x y fs zs is low l r free e =
       let below_x : height x < levels = omega arith in
       let first = e ∙ ap (λ (kind : Kind). placed marked kind place ∷ (second_word marked o ++ (written_expr marked y ++ zs))) (sym (word_kind o)) in
       reaches_deeper below_x
       (reaches_bind _ (reaches_expect_place marked (operator_kind (first_word o)) first) (λ us a.
       reaches_bind _ (whole_again marked o y us zs is a) (λ vs b.
-      reaches_bind _ (again (omega arith) layer.Relation y vs zs (omega arith) l r free b) (λ ws d. reaches_pure d))))
+      reaches_bind _ (again (omega arith) layer.Relation y vs zs (omega arith) l r free b) (λ ws d. reaches_is (ap (λ (t : Tall). (t, Some o)) (joined_measure o place x y)) (reaches_pure d)))))
 
-  opening_joined : (o : InfixOp) (place : Place) (x y : Expr) (fs zs : List Form) → layer_of o ≡ layer.Expression → height (written.operation o place x y) ≤ levels → Layered (written.operation o place x y) → rank (layer_in x) ≤ 4 → Free layer.Relation (peek marked zs)
-      → fs ≡ written_expr marked (written.operation o place x y) ++ zs → Reaches (opening marked below levels) fs (measure (written.operation o place x y), Some o) zs
+  opening_joined : (o : InfixOp) (place : Place) (x y : Expr) (fs zs : List Form) → layer_of o ≡ layer.Expression → height (expr.Infix o place x y) ≤ levels → Layered (expr.Infix o place x y) → rank (layer_in x) ≤ 4 → Free layer.Relation (peek marked zs)
+      → fs ≡ written_expr marked (expr.Infix o place x y) ++ zs → Reaches (opening marked below levels) fs (measure (expr.Infix o place x y), Some o) zs
   unfolding opening
   opening_joined o place x y fs zs is low l r free e =
+      let h = infix_height o place x y in
+      let q = infix_parts o place x y l in
       let low_x : height x ≤ levels = omega arith in
       let s = operator_strength o place y zs ∙ ap rank is in
       let right = ap (λ (a : Layer). rank (right_layer a)) is in
-      let low_y = l.3 in
-      reaches_bind _ (relation_again x fs (from_operator o place y zs) low_x l.0 r (omega arith) (e ∙ flat o place x y zs)) (λ us a.
+      let low_y = q.3 in
+      reaches_bind _ (relation_again x fs (from_operator o place y zs) low_x q.0 r (omega arith) (e ∙ flat o place x y zs)) (λ us a.
       reaches_choose (peek marked) (λ kind. opening_by marked below levels (measure x) (logical kind)) (Some (operator_kind o)) (peek_front marked us a ∙ operator_seen o place y zs)
-      (subst (λ (p : Option InfixOp). Reaches (opening_by marked below levels (measure x) p) us (measure (written.operation o place x y), Some o) zs) (sym (word_self o is)) (combined_again o place x y us zs is low l.1 (omega arith) free a)))
+      (subst (λ (p : Option InfixOp). Reaches (opening_by marked below levels (measure x) p) us (measure (expr.Infix o place x y), Some o) zs) (sym (word_self o is)) (combined_again o place x y us zs is (omega arith) q.1 (omega arith) free a)))
 
-  combination_base : (o : InfixOp) (place : Place) (x y : Expr) (fs zs : List Form) → layer_of o ≡ layer.Expression → height (written.operation o place x y) ≤ levels → Layered (written.operation o place x y) → rank (layer_in x) ≤ 4 → Free layer.Relation (peek marked zs)
-      → fs ≡ written_expr marked (written.operation o place x y) ++ zs → combination marked below levels fs ≡ chained marked below levels (chain.Logical o) (measure (written.operation o place x y)) zs
+  combination_base : (o : InfixOp) (place : Place) (x y : Expr) (fs zs : List Form) → layer_of o ≡ layer.Expression → height (expr.Infix o place x y) ≤ levels → Layered (expr.Infix o place x y) → rank (layer_in x) ≤ 4 → Free layer.Relation (peek marked zs)
+      → fs ≡ written_expr marked (expr.Infix o place x y) ++ zs → combination marked below levels fs ≡ chained marked below levels (chain.Logical o) (measure (expr.Infix o place x y)) zs
   unfolding combination
   combination_base o place x y fs zs is low l r free e = ap (λ (out : Outcome (Tall × Option InfixOp)). and_then out (λ z. combination_by marked below levels z.0 z.1)) (opening_joined o place x y fs zs is low l r free e).is
 
-  combination_case : (o : InfixOp) (place : Place) (x y : Expr) (fs zs : List Form) → layer_of o ≡ layer.Expression → height (written.operation o place x y) ≤ levels → Layered (written.operation o place x y) → Free layer.Relation (peek marked zs)
-      → fs ≡ written_expr marked (written.operation o place x y) ++ zs → (rank (layer_in x) ≤ 4) ⊎ HasOperator o x
+  combination_case : (o : InfixOp) (place : Place) (x y : Expr) (fs zs : List Form) → layer_of o ≡ layer.Expression → height (expr.Infix o place x y) ≤ levels → Layered (expr.Infix o place x y) → Free layer.Relation (peek marked zs)
+      → fs ≡ written_expr marked (expr.Infix o place x y) ++ zs → (rank (layer_in x) ≤ 4) ⊎ HasOperator o x
       → (HasOperator o x → Free layer.Relation (peek marked (from_operator o place y zs)) → combination marked below levels fs ≡ chained marked below levels (chain.Logical o) (measure x) (from_operator o place y zs))
-      → combination marked below levels fs ≡ chained marked below levels (chain.Logical o) (measure (written.operation o place x y)) zs
+      → combination marked below levels fs ≡ chained marked below levels (chain.Logical o) (measure (expr.Infix o place x y)) zs
   combination_case o place x y fs zs is low l free e (inl r) left = combination_base o place x y fs zs is low l r free e
   combination_case o place x y fs zs is low l free e (inr has) left =
       let s = operator_strength o place y zs ∙ ap rank is in
       let right = ap (λ (a : Layer). rank (right_layer a)) is in
-      linked (chain.Logical o) o place x y (combination marked below levels fs) zs (logical_self o is) low l.1 l.3 (omega arith) (left has (omega arith))
+      let h = infix_height o place x y in
+      let q = infix_parts o place x y l in
+      linked (chain.Logical o) o place x y (combination marked below levels fs) zs (logical_self o is) (omega arith) q.1 q.3 (omega arith) (left has (omega arith))
 
-  combination_goes : (o : InfixOp) → layer_of o ≡ layer.Expression → (x : Expr) → HasOperator o x → (fs zs : List Form) → height x ≤ levels → Layered x → Free layer.Relation (peek marked zs) → fs ≡ written_expr marked x ++ zs
-      → combination marked below levels fs ≡ chained marked below levels (chain.Logical o) (measure x) zs
-  combination_goes o is (written.operation p place x y) has fs zs low l free e =
+  -- relations that are joined by one operator are read as a chain
+  abbrev CombinationGoes : InfixOp → Expr → Type 0
+  CombinationGoes o x = HasOperator o x → (fs zs : List Form) → height x ≤ levels → Layered x → Free layer.Relation (peek marked zs) → fs ≡ written_expr marked x ++ zs → combination marked below levels fs ≡ chained marked below levels (chain.Logical o) (measure x) zs
+
+  abbrev CombinationRest : InfixOp → Expr → Type 0
+  CombinationRest o x = ((z : Expr) → height z < height x → CombinationGoes o z) → CombinationGoes o x
+
+  no_operator : (o : InfixOp) (x : Expr) (y : Expr-F Expr) → out-Expr x ≡ y → HasOperator o x → IsOperation o y
+  no_operator o x y e has = subst (IsOperation o) e has
+
+  combination_goes : (o : InfixOp) → layer_of o ≡ layer.Expression → (x : Expr) → CombinationGoes o x
+  combination_goes o is = by_height (CombinationGoes o) (by_form (CombinationRest o)
+      (λ value place rest has fs zs low l free e. absurd (no_operator o (expr.Number value place) (Expr-F.Number value place) (outs-Number value place) has))
+      (λ path parts rest has fs zs low l free e. absurd (no_operator o (expr.Name path parts) (Expr-F.Name path parts) (outs-Name path parts) has))
+      (λ place inner rest has fs zs low l free e. absurd (no_operator o (expr.Parenthesized place inner) (Expr-F.Parenthesized place inner) (outs-Parenthesized place inner) has))
+      (λ p place x rest has fs zs low l free e. absurd (no_operator o (expr.Prefix p place x) (Expr-F.Prefix p place x) (outs-Prefix p place x) has))
+      (λ p place x y rest has fs zs low l free e.
+      let h = infix_height p place x y in
+      let q = infix_parts p place x y l in
       let low_x : height x ≤ levels = omega arith in
-      let same = ap layer_of has ∙ is in
-      subst (λ (q : InfixOp). combination marked below levels fs ≡ chained marked below levels (chain.Logical q) (measure (written.operation p place x y)) zs) has
-      (combination_case p place x y fs zs same low l free e (subst (λ (a : Layer). FitsLeft a p x) same l.2)
-      (λ h f. subst (λ (q : InfixOp). combination marked below levels fs ≡ chained marked below levels (chain.Logical q) (measure x) (from_operator p place y zs)) (sym has)
-      (combination_goes o is x (subst (λ (q : InfixOp). HasOperator q x) has h) fs (from_operator p place y zs) low_x l.0 f (e ∙ flat p place x y zs))))
-  combination_goes o is (written.signed p place x) has fs zs low l free e = absurd has
-  combination_goes o is (written.applied function place x) has fs zs low l free e = absurd has
-  combination_goes o is (parenthesized place inner) has fs zs low l free e = absurd has
-  combination_goes o is (expr.Number value place) has fs zs low l free e = absurd has
-  combination_goes o is (expr.Name x) has fs zs low l free e = absurd has
-  combination_goes o is (expr.Entry x) has fs zs low l free e = absurd has
-  combination_goes o is (written.in_type p place x n) has fs zs low l free e = absurd has
-  combination_goes o is (written.in_range p place x a b) has fs zs low l free e = absurd has
+      let so : p ≡ o = no_operator o (expr.Infix p place x y) (Expr-F.Infix p place x y) (outs-Infix p place x y) has in
+      let same = ap layer_of so ∙ is in
+      subst (λ (r : InfixOp). combination marked below levels fs ≡ chained marked below levels (chain.Logical r) (measure (expr.Infix p place x y)) zs) so
+      (combination_case p place x y fs zs same low l free e (subst (λ (a : Layer). FitsLeft a p x) same q.2)
+      (λ g f. subst (λ (r : InfixOp). combination marked below levels fs ≡ chained marked below levels (chain.Logical r) (measure x) (from_operator p place y zs)) (sym so)
+      (rest x (infix_less p place x y) (subst (λ (r : InfixOp). HasOperator r x) so g) fs (from_operator p place y zs) low_x q.0 f (e ∙ flat p place x y zs)))))
+      (λ p place x path parts rest has fs zs low l free e. absurd (no_operator o (expr.InType p place x path parts) (Expr-F.InType p place x path parts) (outs-InType p place x path parts) has))
+      (λ p place x a b rest has fs zs low l free e. absurd (no_operator o (expr.InRange p place x a b) (Expr-F.InRange p place x a b) (outs-InRange p place x a b) has)))
 
   combination_plain : (x : Expr) (fs zs : List Form) → height x ≤ levels → Layered x → rank (layer_in x) ≤ 4 → Free layer.Expression (peek marked zs) → fs ≡ written_expr marked x ++ zs → Reaches (combination marked below levels) fs (measure x) zs
   unfolding combination
   combination_plain x fs zs low l r free e = reaches_bind _ (opening_plain x fs zs low l r free e) (λ us a. reaches_pure a)
 
   combination_again : Again marked (combination marked below levels) levels layer.Expression
-  combination_again (written.operation o place x y) fs zs low l r free e =
-      elim (layers layer.Expression (layer_of o) r) [
-        | inl is ↦ record { is = combination_goes o is (written.operation o place x y) refl fs zs low l (omega arith) e ∙ over (chain.Logical o) (written.operation o place x y) zs free }
-        | inr lower ↦ combination_plain (written.operation o place x y) fs zs low l (omega arith) free e
-      ]
-  combination_again (written.signed o place x) fs zs low l r free e = combination_plain (written.signed o place x) fs zs low l (elim (before_cases o) [ inl is ↦ let h = ap rank is.0 in omega arith | inr is ↦ let h = ap rank is.0 in omega arith ]) free e
-  combination_again (written.applied function place x) fs zs low l r free e = combination_plain (written.applied function place x) fs zs low l (omega arith) free e
-  combination_again (parenthesized place inner) fs zs low l r free e = combination_plain (parenthesized place inner) fs zs low l (omega arith) free e
-  combination_again (expr.Number value place) fs zs low l r free e = combination_plain (expr.Number value place) fs zs low l (omega arith) free e
-  combination_again (expr.Name x) fs zs low l r free e = combination_plain (expr.Name x) fs zs low l (omega arith) free e
-  combination_again (expr.Entry x) fs zs low l r free e = combination_plain (expr.Entry x) fs zs low l (omega arith) free e
-  combination_again (written.in_type o place x n) fs zs low l r free e = combination_plain (written.in_type o place x n) fs zs low l (omega arith) free e
-  combination_again (written.in_range o place x a b) fs zs low l r free e = combination_plain (written.in_range o place x a b) fs zs low l (omega arith) free e
+  combination_again = by_kind (Told marked (combination marked below levels) levels layer.Expression)
+      (λ x p fs zs low l r free e. combination_plain x fs zs low l (omega arith) free e)
+      (λ o place x fs zs low l r free e.
+      let a = ap rank (prefix_layer o place x) in
+      combination_plain (expr.Prefix o place x) fs zs low l (elim (before_cases o) [ inl is ↦ let h = ap rank is.0 in omega arith | inr is ↦ let h = ap rank is.0 in omega arith ]) free e)
+      (λ o place x y fs zs low l r free e.
+      let a = ap rank (infix_layer o place x y) in
+      elim (layers layer.Expression (layer_of o) (omega arith)) [
+        | inl is ↦ record { is = combination_goes o is (expr.Infix o place x y) (infix_has o place x y) fs zs low l (omega arith) e ∙ over (chain.Logical o) (expr.Infix o place x y) zs free }
+        | inr lower ↦ combination_plain (expr.Infix o place x y) fs zs low l (omega arith) free e
+      ])
+      (λ o place x path parts fs zs low l r free e. let a = ap rank (in_type_layer o place x path parts) in combination_plain (expr.InType o place x path parts) fs zs low l (omega arith) free e)
+      (λ o place x a b fs zs low l r free e. let c = ap rank (in_range_layer o place x a b) in combination_plain (expr.InRange o place x a b) fs zs low l (omega arith) free e)
 
   -- ---- predicates
 
@@ -860,31 +854,33 @@ module _ (marked : Bool) (below : Layer → Reader Tall) (levels : ℕ) (shrinks
       reaches_choose (peek marked) (λ kind. connection_by marked below levels (measure x) (connective_of kind)) (peek marked zs) (peek_front marked us a)
       (subst (λ (o : Option InfixOp). Reaches (connection_by marked below levels (measure x) o) us (measure x) zs) (sym (no_connective (peek marked zs) free)) (reaches_pure a)))
 
-  connection_joined : (o : InfixOp) (place : Place) (x y : Expr) (fs zs : List Form) → layer_of o ≡ layer.Predicate → height (written.operation o place x y) ≤ levels → Layered (written.operation o place x y) → Free layer.Predicate (peek marked zs)
-      → fs ≡ written_expr marked (written.operation o place x y) ++ zs → Reaches (connection marked below levels) fs (measure (written.operation o place x y)) zs
+  connection_joined : (o : InfixOp) (place : Place) (x y : Expr) (fs zs : List Form) → layer_of o ≡ layer.Predicate → height (expr.Infix o place x y) ≤ levels → Layered (expr.Infix o place x y) → Free layer.Predicate (peek marked zs)
+      → fs ≡ written_expr marked (expr.Infix o place x y) ++ zs → Reaches (connection marked below levels) fs (measure (expr.Infix o place x y)) zs
   unfolding connection
   connection_joined o place x y fs zs is low l free e =
+      let h = infix_height o place x y in
+      let q = infix_parts o place x y l in
       let low_x : height x ≤ levels = omega arith in
       let s = operator_strength o place y zs ∙ ap rank is in
       let right = ap (λ (a : Layer). rank (right_layer a)) is in
-      reaches_bind _ (combination_again x fs (from_operator o place y zs) low_x l.0 (subst (λ (a : Layer). FitsLeft a o x) is l.2) (omega arith) (e ∙ flat o place x y zs)) (λ us a.
+      reaches_bind _ (combination_again x fs (from_operator o place y zs) low_x q.0 (subst (λ (a : Layer). FitsLeft a o x) is q.2) (omega arith) (e ∙ flat o place x y zs)) (λ us a.
       reaches_choose (peek marked) (λ kind. connection_by marked below levels (measure x) (connective_of kind)) (Some (operator_kind o)) (peek_front marked us a ∙ operator_seen o place y zs)
-      (subst (λ (p : Option InfixOp). Reaches (connection_by marked below levels (measure x) p) us (measure (written.operation o place x y)) zs) (sym (connective_self o is)) (joined_again o place x y us zs low l.1 l.3 (omega arith) a)))
+      (subst (λ (p : Option InfixOp). Reaches (connection_by marked below levels (measure x) p) us (measure (expr.Infix o place x y)) zs) (sym (connective_self o is)) (joined_again o place x y us zs (omega arith) q.1 q.3 (omega arith) a)))
 
   connection_again : Again marked (connection marked below levels) levels layer.Predicate
-  connection_again (written.operation o place x y) fs zs low l r free e =
-      elim (layers layer.Predicate (layer_of o) r) [
+  connection_again = by_kind (Told marked (connection marked below levels) levels layer.Predicate)
+      (λ x p fs zs low l r free e. connection_plain x fs zs low l (omega arith) free e)
+      (λ o place x fs zs low l r free e.
+      let a = ap rank (prefix_layer o place x) in
+      connection_plain (expr.Prefix o place x) fs zs low l (elim (before_cases o) [ inl is ↦ let h = ap rank is.0 in omega arith | inr is ↦ let h = ap rank is.0 in omega arith ]) free e)
+      (λ o place x y fs zs low l r free e.
+      let a = ap rank (infix_layer o place x y) in
+      elim (layers layer.Predicate (layer_of o) (omega arith)) [
         | inl is ↦ connection_joined o place x y fs zs is low l free e
-        | inr lower ↦ connection_plain (written.operation o place x y) fs zs low l (omega arith) free e
-      ]
-  connection_again (written.signed o place x) fs zs low l r free e = connection_plain (written.signed o place x) fs zs low l (elim (before_cases o) [ inl is ↦ let h = ap rank is.0 in omega arith | inr is ↦ let h = ap rank is.0 in omega arith ]) free e
-  connection_again (written.applied function place x) fs zs low l r free e = connection_plain (written.applied function place x) fs zs low l (omega arith) free e
-  connection_again (parenthesized place inner) fs zs low l r free e = connection_plain (parenthesized place inner) fs zs low l (omega arith) free e
-  connection_again (expr.Number value place) fs zs low l r free e = connection_plain (expr.Number value place) fs zs low l (omega arith) free e
-  connection_again (expr.Name x) fs zs low l r free e = connection_plain (expr.Name x) fs zs low l (omega arith) free e
-  connection_again (expr.Entry x) fs zs low l r free e = connection_plain (expr.Entry x) fs zs low l (omega arith) free e
-  connection_again (written.in_type o place x n) fs zs low l r free e = connection_plain (written.in_type o place x n) fs zs low l (omega arith) free e
-  connection_again (written.in_range o place x a b) fs zs low l r free e = connection_plain (written.in_range o place x a b) fs zs low l (omega arith) free e
+        | inr lower ↦ connection_plain (expr.Infix o place x y) fs zs low l (omega arith) free e
+      ])
+      (λ o place x path parts fs zs low l r free e. let a = ap rank (in_type_layer o place x path parts) in connection_plain (expr.InType o place x path parts) fs zs low l (omega arith) free e)
+      (λ o place x a b fs zs low l r free e. let c = ap rank (in_range_layer o place x a b) in connection_plain (expr.InRange o place x a b) fs zs low l (omega arith) free e)
 
   read_again : (layer : Layer) → Again marked (read marked below levels layer) levels layer
   read_again layer.Primary = primary_again
@@ -898,19 +894,40 @@ module _ (marked : Bool) (below : Layer → Reader Tall) (levels : ℕ) (shrinks
 below_again : (marked : Bool) (levels : ℕ) → 0 < levels → (layer : Layer) → Again marked (below marked levels layer) (levels - 1) layer
 unfolding below
 below_again marked zero h layer = absurd (omega arith)
-below_again marked (suc n) h layer = λ x fs zs low l r free e. read_again marked (below marked n) n (chain_shrinks marked (below marked n) (below marked (suc n)) n (below_good marked n)) (below_again marked n) layer x fs zs (omega arith) l r free e
+below_again marked (suc n) h layer = λ x fs zs low l r free e.
+    let lower = below marked n in
+    let same = below marked (suc n) in
+    let good = below_good marked n in
+    read_again marked lower n (chain_shrinks marked lower same n good) (parts_shrinks marked lower same n good) (formals_shrink marked lower same n good) (steps_shrink marked lower same n good) (below_again marked n) layer x fs zs (omega arith) l r free e
 
 at_layer_again : (marked : Bool) (levels : ℕ) (layer : Layer) → Again marked (at_layer marked levels layer) levels layer
 unfolding at_layer
-at_layer_again marked levels layer = read_again marked (below marked levels) levels (chain_shrinks marked (below marked levels) (below marked (suc levels)) levels (below_good marked levels)) (below_again marked levels) layer
+at_layer_again marked levels layer =
+    let lower = below marked levels in
+    let same = below marked (suc levels) in
+    let good = below_good marked levels in
+    read_again marked lower levels (chain_shrinks marked lower same levels good) (parts_shrinks marked lower same levels good) (formals_shrink marked lower same levels good) (steps_shrink marked lower same levels good) (below_again marked levels) layer
+
+pub name_again : (marked : Bool) (levels : ℕ) (x : Name) (fs zs : List Form) → IsName levels x → 0 < strength (peek marked zs) → fs ≡ written_name marked x ++ zs → Reaches (name marked levels) fs x zs
+unfolding name
+name_again marked levels x fs zs f free e =
+    let lower = below marked levels in
+    let same = below marked (suc levels) in
+    let good = below_good marked levels in
+    reaches_bind _ (name_reached marked lower levels (parts_shrinks marked lower same levels good) (formals_shrink marked lower same levels good) (steps_shrink marked lower same levels good) (below_again marked levels) x.path x.parts fs zs f.0
+    (parts_of levels (layers_of x.path.steps) x.parts f.1) (parts_low levels (layers_of x.path.steps) x.parts f.1) free e) (λ us a. reaches_pure a)
+
+-- an identifier comes first
+pub name_front : (marked : Bool) (x : Name) (zs : List Form) → peek marked (written_name marked x ++ zs) ≡ Some k.Identifier
+name_front marked x zs = peek_here marked k.Identifier (Spelled x.path.root.text x.path.root.place) (written_steps marked x.path.steps (map (written_expr marked) x.parts) ++ zs)
 
 pub expression_again : (marked : Bool) (levels : ℕ) (x : Expr) (fs zs : List Form) → IsExpr levels x → Free layer.Expression (peek marked zs) → fs ≡ written_expr marked x ++ zs → Reaches (expression marked levels) fs x zs
 unfolding expression
-expression_again marked levels x fs zs fit free e = reaches_bind _ (at_layer_again marked levels layer.Expression x fs zs fit.low fit.layered fit.of_layer free e) (λ us a. reaches_pure a)
+expression_again marked levels x fs zs fit free e = reaches_bind _ (at_layer_again marked levels layer.Expression x fs zs (of_layer_low levels layer.Expression x fit) (layered_of levels layer.Expression x fit) fit.0 free e) (λ us a. reaches_pure a)
 
 pub expression_at_again : (marked : Bool) (levels : ℕ) (x : Expr) (fs zs : List Form) → IsExprAt marked levels x → Free (last_layer marked) (peek marked zs) → fs ≡ written_expr marked x ++ zs → Reaches (expression_at marked levels) fs x zs
 unfolding expression_at
-expression_at_again marked levels x fs zs fit free e = reaches_bind _ (at_layer_again marked levels (last_layer marked) x fs zs fit.low fit.layered fit.of_layer free e) (λ us a. reaches_pure a)
+expression_at_again marked levels x fs zs fit free e = reaches_bind _ (at_layer_again marked levels (last_layer marked) x fs zs (of_layer_low levels (last_layer marked) x fit) (layered_of levels (last_layer marked) x fit) fit.0 free e) (λ us a. reaches_pure a)
 
 -- at the end of the forms nothing goes on
 pub end_free : (layer : Layer) → Free layer None
@@ -918,7 +935,7 @@ end_free layer = let low = rank_low layer in omega arith
 
 predicate_again : (marked : Bool) (levels : ℕ) (x : Expr) (fs zs : List Form) → IsCondition levels x → Free layer.Predicate (peek marked zs) → fs ≡ written_expr marked x ++ zs → Reaches (predicate marked levels) fs x zs
 unfolding predicate
-predicate_again marked levels x fs zs fit free e = reaches_bind _ (at_layer_again marked levels layer.Predicate x fs zs fit.low fit.layered fit.of_layer free e) (λ us a. reaches_pure a)
+predicate_again marked levels x fs zs fit free e = reaches_bind _ (at_layer_again marked levels layer.Predicate x fs zs (of_layer_low levels layer.Predicate x fit) (layered_of levels layer.Predicate x fit) fit.0 free e) (λ us a. reaches_pure a)
 
 pub predicate_after_again : (word : Kind) (levels : ℕ) (x : Predicate) (fs zs : List Form) → IsPredicate levels x → fs ≡ written_at word x.place x.condition ++ zs → Reaches (predicate_after word levels) fs x zs
 unfolding predicate_after
@@ -930,15 +947,15 @@ predicate_after_again word levels x fs zs f h =
 
 pub simple_expression_again : (marked : Bool) (levels : ℕ) (x : Expr) (fs zs : List Form) → OfLayer layer.Sum levels x → Free layer.Sum (peek marked zs) → fs ≡ written_expr marked x ++ zs → Reaches (simple_expression marked levels) fs x zs
 unfolding simple_expression
-simple_expression_again marked levels x fs zs fit free e = reaches_bind _ (at_layer_again marked levels layer.Sum x fs zs fit.low fit.layered fit.of_layer free e) (λ us a. reaches_pure a)
+simple_expression_again marked levels x fs zs fit free e = reaches_bind _ (at_layer_again marked levels layer.Sum x fs zs (of_layer_low levels layer.Sum x fit) (layered_of levels layer.Sum x fit) fit.0 free e) (λ us a. reaches_pure a)
 
 pub expression_below_again : (marked : Bool) (levels : ℕ) → 0 < levels → (x : Expr) (fs zs : List Form) → IsExpr (levels - 1) x → Free layer.Expression (peek marked zs) → fs ≡ written_expr marked x ++ zs → Reaches (expression_below marked levels) fs x zs
 unfolding expression_below
-expression_below_again marked levels some x fs zs fit free e = reaches_bind _ (below_again marked levels some layer.Expression x fs zs fit.low fit.layered fit.of_layer free e) (λ us a. reaches_pure a)
+expression_below_again marked levels some x fs zs fit free e = reaches_bind _ (below_again marked levels some layer.Expression x fs zs (of_layer_low (levels - 1) layer.Expression x fit) (layered_of (levels - 1) layer.Expression x fit) fit.0 free e) (λ us a. reaches_pure a)
 
 pub simple_expression_below_again : (marked : Bool) (levels : ℕ) → 0 < levels → (x : Expr) (fs zs : List Form) → OfLayer layer.Sum (levels - 1) x → Free layer.Sum (peek marked zs) → fs ≡ written_expr marked x ++ zs → Reaches (simple_expression_below marked levels) fs x zs
 unfolding simple_expression_below
-simple_expression_below_again marked levels some x fs zs fit free e = reaches_bind _ (below_again marked levels some layer.Sum x fs zs fit.low fit.layered fit.of_layer free e) (λ us a. reaches_pure a)
+simple_expression_below_again marked levels some x fs zs fit free e = reaches_bind _ (below_again marked levels some layer.Sum x fs zs (of_layer_low (levels - 1) layer.Sum x fit) (layered_of (levels - 1) layer.Sum x fit) fit.0 free e) (λ us a. reaches_pure a)
 
 -- no expression goes on with a semicolon
 pub semicolon_free : (marked : Bool) (zs : List Form) → Free layer.Expression (peek marked (bare marked k.Semicolon ∷ zs))

@@ -63,6 +63,14 @@ module _ {L P A B : Type 0} {spell1 : A → List Form} {fits1 : A → Type 0} {s
     takes' = λ fs here. takes_bind on p' q' s.good.scans' (λ x. (h x).scans') fs (s.takes' fs here);
   }
 
+  -- what goes on from what stood before
+  pub starts_then : Starts L P spell1 fits1 before on p p' → ((x : A) → Good L (P × fits1 x) spell fits (spell1 x) Any (q x) (q' x)) → Starts L P spell fits before on (p >>= q) (p' >>= q')
+  starts_then s h = record {
+    good = good_then s.good h;
+    takes = λ l fs here. takes_bind on p q (s.good.scans l) (λ x. (h x).scans l) fs (s.takes l fs here);
+    takes' = λ fs here. takes_bind on p' q' s.good.scans' (λ x. (h x).scans') fs (s.takes' fs here);
+  }
+
   pub opens_bind : Opens L P spell1 fits1 [] on p p' → ((x : A) → Good L (P × fits1 x) spell fits (before ++ spell1 x) Any (q x) (q' x)) → Opens L P spell fits before on (p >>= q) (p' >>= q')
   opens_bind o h = record { starts = starts_bind o.starts h; some = o.some; under = λ fs sh here. under_bind q' (λ x. (h x).scans') (length fs) (p' fs) (o.under fs sh here) }
 
@@ -101,6 +109,12 @@ starts_given h s = record { good = good_given (λ l. l) h s.good; takes = s.take
 
 pub starts_weaken : {L P A : Type 0} {spell : A → List Form} {fits1 fits : A → Type 0} {before : List Form} {on : List Form → Type 0} {p p' : Reader A} → (L → P → (x : A) → fits1 x → fits x) → Starts L P spell fits1 before on p p' → Starts L P spell fits before on p p'
 starts_weaken h s = record { good = good_weaken h s.good; takes = s.takes; takes' = s.takes' }
+
+pub starts_before : {L P A : Type 0} {spell : A → List Form} {fits : A → Type 0} {a b : List Form} {on : List Form → Type 0} {p p' : Reader A} → a ≡ b → Starts L P spell fits a on p p' → Starts L P spell fits b on p p'
+starts_before e s = record { good = good_before e s.good; takes = s.takes; takes' = s.takes' }
+
+pub starts_fewer : {L P A : Type 0} {spell : A → List Form} {fits : A → Type 0} {before : List Form} {on more : List Form → Type 0} {p p' : Reader A} → ((fs : List Form) → on fs → more fs) → Starts L P spell fits before more p p' → Starts L P spell fits before on p p'
+starts_fewer h s = record { good = good_fewer h s.good; takes = λ l fs here. s.takes l fs (h fs here); takes' = λ fs here. s.takes' fs (h fs here) }
 
 -- ---- single forms
 

@@ -19,8 +19,8 @@ use Rattle.spx_tree.specs.declared.statement.Scheme.TheVariants.{While, For, End
 use Rattle.spx_tree.specs.declared.statement.Stmt.{Stmt, Stmt-F, out-Stmt}
 use Rattle.spx_tree.specs.declared.statement.Stmt.TheVariants.{Null, Assignment, If, Case, Loop, Assertion, Exit, outs-Null, outs-Assignment, outs-If, outs-Case, outs-Loop, outs-Assertion, outs-Exit}
 use Rattle.spx_tree.specs.Form.{Form, ItsPlace, bare, placed, keeps}
-use Rattle.spx_tree.specs.Written.{program, annotation, assertion_word, joined, optional, elsif_arms, all_arms, written_upper, written_choice, written_choices, written_constraint, written_direction, written_range, written_scheme, written_when, written_expr, written_stmt, written_arm, written_alternative, written_stmts, separated}
-use Rattle.spx_tree.specs.Grammar.{OneOrMore, IfThere, OfLayer, IsExpr, IsArm, IsChoice, IsAlternative, IsRange, IsScheme, IsFormed, Within, IsStmt}
+use Rattle.spx_tree.specs.Written.{written_name, program, annotation, assertion_word, joined, optional, elsif_arms, all_arms, written_upper, written_choice, written_choices, written_constraint, written_direction, written_range, written_scheme, written_when, written_expr, written_stmt, written_arm, written_alternative, written_stmts, separated}
+use Rattle.spx_tree.specs.Grammar.{OneOrMore, IfThere, OfLayer, IsExpr, IsArm, IsChoice, IsAlternative, IsRange, IsName, IsScheme, IsFormed, Within, IsStmt}
 use Rattle.spx_tree.proofs.WrittenLevels.{written_level, spelled_stmt, spelled_arm, spelled_alternative, elsif_joined}
 use Rattle.spx_cursor.specs.Reading.{Reader, ◌>>=◌, ◌>>◌, pure, peek, sees, refuse, expect, expect_place, item_step}
 use Rattle.spx_parse_body.specs.declared.statements.SchemeKind.{SchemeKind}
@@ -28,7 +28,7 @@ use Rattle.spx_parse_body.specs.declared.statements.SchemeKind.TheVariants as sc
 use Rattle.spx_parse_body.specs.declared.statements.StmtKind.{StmtKind}
 use Rattle.spx_parse_body.specs.declared.statements.StmtKind.TheVariants as kinds
 use Rattle.spx_parse_body.specs.Statements as read
-use Rattle.spx_parse_body.specs.Statements.{null_statement, assignment, upper, choice, more_choices, some_choices, choices_by, choices, arm, elsif_arm, if_statement, alternative, more_alternatives, alternatives, case_statement, range, constraint, constraint_below, while_scheme, direction, for_scheme, scheme, loop_statement, when_part, exit_statement, assertion_statement, noted_stmt, stmt_of, next_stmt, stmt_by, stmt, sees_stmt, more_stmts, some_stmts, stmts_below, stmts}
+use Rattle.spx_parse_body.specs.Statements.{null_statement, assignment, upper, choice, more_choices, some_choices, choices_by, choices, arm, elsif_arm, if_statement, alternative, more_alternatives, alternatives, case_statement, range, constraint, constraint_below, while_scheme, direction, type_below, for_scheme, scheme, loop_statement, when_part, exit_statement, assertion_statement, noted_stmt, stmt_of, next_stmt, stmt_by, stmt, sees_stmt, more_stmts, some_stmts, stmts_below, stmts}
 use Rattle.spx_parse_body.proofs.Callers.Loops.{Shrinks}
 use Rattle.spx_parse_body.proofs.Callers.Lawful.{Ends, Any, Sees, Always, just}
 use Rattle.spx_parse_body.proofs.Callers.Good.{Good, Starts, Opens, Adds, no_level, good_bind, good_then, good_as, good_before, good_given, good_more, good_pure, good_refuse, good_expect, good_expect_place, good_identifier, good_choose, list_shrinks, opens_bind, opens_place, starts_bind, starts_choose, starts_deeper, starts_expect, starts_open, starts_place}
@@ -244,6 +244,14 @@ direction_good =
     good_bind (good_if_seen (just program k.Reverse) Always program k.Reverse (starts_expect program k.Reverse (sees_kind program k.Reverse) refl)) (λ seen.
     good_pure (is_some seen) (λ l w. direction_text seen) (λ l w. tt))
 
+-- name one level down
+type_below_good : {P : Type 0} (levels : ℕ) → Good (0 < levels) P (written_name program) (IsName (levels - 1)) [] Any (type_below levels) (type_below (suc levels))
+unfolding type_below
+type_below_good zero = record { law = λ l w. absurd (omega arith); scans = λ l. absurd (omega arith); scans' = (name_good {L = ⊤} {P = ⊤} program zero).scans tt; grows = λ l w. absurd (omega arith) }
+type_below_good {P} (suc n) =
+    let e : n ≡ suc n - 1 = omega arith in
+    subst (λ (j : ℕ). Good (0 < suc n) P (written_name program) (IsName j) [] Any (type_below (suc n)) (type_below (suc (suc n)))) e (name_good program n)
+
 for_opens : {P : Type 0} {on : List Form → Type 0} (levels : ℕ) → ((fs : List Form) → on fs → peek program fs ≡ Some k.For) → Opens (0 < levels) P written_scheme (IsScheme (levels - 1)) [] on (for_scheme levels) (for_scheme (suc levels))
 unfolding for_scheme
 for_opens levels here =
@@ -251,9 +259,9 @@ for_opens levels here =
     good_bind (good_identifier program) (λ subject.
     good_bind (good_expect_place program k.In) (λ word.
     good_bind direction_good (λ is_reverse.
-    good_bind (name_good program) (λ type_name.
+    good_bind (type_below_good levels) (λ type_name.
     good_bind (good_if_seen written_constraint (IsRange (levels - 1)) program k.Range (constraint_below_starts levels (sees_kind program k.Range))) (λ bounds.
-    good_pure (For (record { place = place; name = subject; word = word; is_reverse = is_reverse; type_name = type_name; bounds = bounds })) (λ l w. simp append_assoc) (λ l w. w.1)))))))
+    good_pure (For (record { place = place; name = subject; word = word; is_reverse = is_reverse; type_name = type_name; bounds = bounds })) (λ l w. simp append_assoc) (λ l w. (w.0.1, w.1))))))))
 
 -- what reads a loop after its scheme and the word "loop"
 abbrev turns_of : Reader (List Stmt) → Scheme → Place → Reader Stmt
@@ -266,11 +274,11 @@ module _ (inner inner' : Reader (List Stmt)) (levels : ℕ) (good : Good (0 < le
   assignment_starts : {L P : Type 0} {on : List Form → Type 0} → ((fs : List Form) → on fs → peek program fs ≡ Some k.Identifier) → Starts L P written_stmt (IsStmt levels) [] on (assignment inner levels) (assignment inner' (suc levels))
   unfolding assignment
   assignment_starts here =
-      starts_bind (name_starts program here) (λ target.
+      starts_bind (name_starts program levels here) (λ target.
       good_bind (good_expect program k.Assignment) (λ u.
       good_bind (expression_good program levels) (λ value.
       good_bind (good_expect program k.Semicolon) (λ v.
-      good_pure (Assignment target value) (λ l w. let e = spelled_as (Assignment target value) _ (outs-Assignment target value) in simp (append_assoc, e)) (λ l w. fits_as levels (Assignment target value) _ (outs-Assignment target value) w.0.1)))))
+      good_pure (Assignment target value) (λ l w. let e = spelled_as (Assignment target value) _ (outs-Assignment target value) in simp (append_assoc, e)) (λ l w. fits_as levels (Assignment target value) _ (outs-Assignment target value) (w.0.0.0.1, w.0.1))))))
 
   -- an arm after its word
   arm_good : {P : Type 0} (word : Kind) (place : Place) → Good (0 < levels) P (λ x. written_arm x word) (FitsArm levels) (placed program word place ∷ []) Any (arm inner levels place) (arm inner' (suc levels) place)

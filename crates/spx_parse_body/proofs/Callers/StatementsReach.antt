@@ -4,7 +4,6 @@ use Rattle.spx_text.specs.declared.place.Place.{Place}
 use Rattle.spx_tree.specs.declared.token.Kind.{Kind}
 use Rattle.spx_tree.specs.declared.token.Kind.TheVariants as k
 use Rattle.spx_tree.specs.declared.expression.Name.{Name}
-use Rattle.spx_tree.specs.declared.expression.Name.TheVariants.{Simple, Attribute}
 use Rattle.spx_tree.specs.declared.expression.Layer.TheVariants as layer
 use Rattle.spx_tree.specs.declared.expression.Expr.{Expr}
 use Rattle.spx_tree.specs.declared.statement.Closing.{Closing}
@@ -21,7 +20,7 @@ use Rattle.spx_tree.specs.declared.statement.Stmt.{Stmt, Stmt-F, out-Stmt, roll-
 use Rattle.spx_tree.specs.declared.statement.Stmt.TheVariants.{Null, Assignment, If, Case, Loop, Assertion, Exit, outs-Null, outs-Assignment, outs-If, outs-Case, outs-Loop, outs-Assertion, outs-Exit}
 use Rattle.spx_tree.specs.Form.{Form, bare, placed, named}
 use Rattle.spx_tree.specs.Written.{program, assertion_word, optional, separated, following, written_name, written_expr, written_upper, written_choice, written_choices, written_range, written_constraint, written_direction, written_scheme, written_when, elsif_arms, written_stmt, written_arm, written_alternative, written_stmts}
-use Rattle.spx_tree.specs.Grammar.{Each, OneOrMore, IfThere, OfLayer, IsExpr, IsRange, IsScheme, IsFormed, Within, IsStmt}
+use Rattle.spx_tree.specs.Grammar.{Each, OneOrMore, IfThere, OfLayer, IsExpr, IsRange, IsName, IsScheme, IsFormed, Within, IsStmt}
 use Rattle.spx_tree.proofs.WrittenLevels.{written_level, spelled_stmt, spelled_arm, spelled_alternative, elsif_joined}
 use Rattle.spx_cursor.specs.Reading.{Reader, ◌>>◌, peek, sees, expect, optional_by, if_seen, item_step}
 use Rattle.spx_parse_body.proofs.Callers.Shaped.{kind_self}
@@ -29,11 +28,12 @@ use Rattle.spx_parse_body.specs.declared.statements.SchemeKind.{SchemeKind}
 use Rattle.spx_parse_body.specs.declared.statements.SchemeKind.TheVariants as schemes
 use Rattle.spx_parse_body.specs.declared.statements.StmtKind.TheVariants as kinds
 use Rattle.spx_parse_body.specs.Statements as read
-use Rattle.spx_parse_body.specs.Statements.{assignment, upper, choice, more_choices, some_choices, choices, arm, elsif_arm, if_statement, alternative, more_alternatives, alternatives, case_statement, range, constraint, constraint_below, while_scheme, direction, for_scheme, scheme, loop_statement, when_part, exit_statement, null_statement, assertion_statement, next_stmt, stmt_by, stmt, sees_stmt, more_stmts, some_stmts, stmts_below, stmts}
+use Rattle.spx_parse_body.specs.Statements.{assignment, upper, choice, more_choices, some_choices, choices, arm, elsif_arm, if_statement, alternative, more_alternatives, alternatives, case_statement, range, constraint, constraint_below, while_scheme, direction, type_below, for_scheme, scheme, loop_statement, when_part, exit_statement, null_statement, assertion_statement, next_stmt, stmt_by, stmt, sees_stmt, more_stmts, some_stmts, stmts_below, stmts}
 use Rattle.spx_parse_body.proofs.Callers.Loops.{Shrinks}
 use Rattle.spx_parse_body.proofs.Callers.Separated.{Lacks, not_seen, sees_front, reaches_separated, reaches_some_items}
 use Rattle.spx_parse_body.proofs.Callers.Reaches.{Reaches, reaches_bind, reaches_pure, reaches_choose, reaches_deeper, reaches_expect, reaches_expect_place, reaches_identifier, reaches_is, reaches_items_before, peek_front}
-use Rattle.spx_parse_body.proofs.Callers.ExpressionsReach.{strength, Free, name_again, name_front, expression_again, predicate_after_again, simple_expression_again, expression_below_again, simple_expression_below_again, not_others, double_dot_free, bare_free, semicolon_free, sum_free, then_free}
+use Rattle.spx_parse_body.proofs.Callers.NamesReach.{strength, Free, bare_free}
+use Rattle.spx_parse_body.proofs.Callers.ExpressionsReach.{name_again, name_front, expression_again, predicate_after_again, simple_expression_again, expression_below_again, simple_expression_below_again, not_others, double_dot_free, semicolon_free, sum_free, then_free}
 use Rattle.spx_parse_body.proofs.Callers.StatementsGood.{IsInner, FitsArm, FitsChoice, FitChoices, FitsAlternative, written_arms, written_alternatives, written_else, choices_shrinks, arms_shrinks, alternatives_shrinks, stmts_shrinks}
 
 -- statements with the same last level are the same
@@ -41,10 +41,6 @@ same_out : (x z : Stmt) (y : Stmt-F Stmt Alternative Arm) → out-Stmt x ≡ y �
 same_out x z y e f = sym (roll-out-Stmt z) ∙ ap roll-Stmt (f ∙ sym e) ∙ roll-out-Stmt x
 
 -- what each part begins with
-target_first : (target : Name) (fs ws : List Form) → next_stmt ((written_name program target ++ fs) ++ ws) ≡ Some kinds.Assignment
-target_first (Simple prefix) fs ws = refl
-target_first (Attribute prefix designator) fs ws = refl
-
 asserted_first : (kind : AssertionKind) (place : Place) (condition : Expr) (ws : List Form) → next_stmt (written_level (Stmt-F.Assertion kind place condition) ++ ws) ≡ Some (kinds.Assertion kind)
 asserted_first assertion.Assert place condition ws = refl
 asserted_first assertion.Check place condition ws = refl
@@ -66,7 +62,7 @@ arms_first levels (x ∷ xs) ws f =
 
 level_seen : (levels : ℕ) (y : Stmt-F Stmt Alternative Arm) (ws : List Form) → IsFormed levels (Within levels) y → sees_stmt (written_level y ++ ws) ≡ true
 level_seen levels (Stmt-F.Null place) ws f = refl
-level_seen levels (Stmt-F.Assignment target value) ws f = ap is_some (target_first target _ ws)
+level_seen levels (Stmt-F.Assignment target value) ws f = refl
 level_seen levels (Stmt-F.Case place selector xs closing) ws f = refl
 level_seen levels (Stmt-F.Loop scheme word body closing) ws f = ap is_some (loop_first scheme word _ ws)
 level_seen levels (Stmt-F.Exit place condition) ws f = refl
@@ -182,9 +178,9 @@ pub constraint_option : (levels : ℕ) (x : Option Range) (fs zs : List Form) �
 constraint_option levels x fs zs f free over h = option_again (constraint levels) (IsRange levels) (constraint_again levels) x fs zs f free over h
 
 -- what stands after the name of a type does not go on with it
-pub constraint_apart : (x : Option Range) (zs : List Form) → Free layer.Sum (peek program zs) → Lacks program k.Apostrophe (optional written_constraint x ++ zs)
-constraint_apart None zs free e = let s = ap strength e in omega arith
-constraint_apart (Some x) zs free e = cc
+pub constraint_apart : (x : Option Range) (zs : List Form) → Free layer.Sum (peek program zs) → 0 < strength (peek program (optional written_constraint x ++ zs))
+constraint_apart None zs free = omega arith
+constraint_apart (Some x) zs free = omega arith
 
 -- ---- statements
 
@@ -238,20 +234,26 @@ for_flat c zs = simp append_assoc
 no_reverse : (x : Name) (zs : List Form) → Lacks program k.Reverse (written_name program x ++ zs)
 no_reverse x zs e = let first = name_front program x zs in cc
 
-for_again : (levels : ℕ) → 0 < levels → (c : Count) (fs zs : List Form) → IfThere (IsRange (levels - 1)) c.bounds → Free layer.Sum (peek program zs) → Lacks program k.Range zs → fs ≡ written_scheme (For c) ++ zs
+-- a name one level down
+type_below_again : (levels : ℕ) → 0 < levels → (x : Name) (fs zs : List Form) → IsName (levels - 1) x → 0 < strength (peek program zs) → fs ≡ written_name program x ++ zs → Reaches (type_below levels) fs x zs
+unfolding type_below
+type_below_again zero some x fs zs f free h = absurd (omega arith)
+type_below_again (suc n) some x fs zs f free h = let e : suc n - 1 ≡ n = omega arith in name_again program n x fs zs (subst (λ (j : ℕ). IsName j x) e f) free h
+
+for_again : (levels : ℕ) → 0 < levels → (c : Count) (fs zs : List Form) → IsName (levels - 1) c.type_name → IfThere (IsRange (levels - 1)) c.bounds → Free layer.Sum (peek program zs) → Lacks program k.Range zs → fs ≡ written_scheme (For c) ++ zs
     → Reaches (for_scheme levels) fs (For c) zs
 unfolding for_scheme
-for_again levels some c fs zs f free over h =
+for_again levels some c fs zs g f free over h =
     reaches_bind _ (reaches_expect_place program k.For (h ∙ for_flat c zs)) (λ t1 a1.
     reaches_bind _ (reaches_identifier program a1) (λ t2 a2.
     reaches_bind _ (reaches_expect_place program k.In a2) (λ t3 a3.
     reaches_bind _ (direction_again c.is_reverse t3 (from_type c zs) (no_reverse c.type_name (optional written_constraint c.bounds ++ zs)) a3) (λ t4 a4.
-    reaches_bind _ (name_again program c.type_name t4 (optional written_constraint c.bounds ++ zs) (constraint_apart c.bounds zs free) a4) (λ t5 a5.
+    reaches_bind _ (type_below_again levels some c.type_name t4 (optional written_constraint c.bounds ++ zs) g (constraint_apart c.bounds zs free) a4) (λ t5 a5.
     reaches_bind _ (option_again (constraint_below levels) (IsRange (levels - 1)) (constraint_below_again levels some) c.bounds t5 zs f free over a5) (λ t6 a6. reaches_pure a6))))))
 
 scheme_again : (levels : ℕ) → 0 < levels → (x : Scheme) (fs zs : List Form) → IsScheme (levels - 1) x → Free layer.Expression (peek program zs) → Lacks program k.Range zs → fs ≡ written_scheme x ++ zs → Reaches (scheme (kind_of x) levels) fs x zs
 scheme_again levels some (While place condition) fs zs f free over h = while_again levels some place condition fs zs f free h
-scheme_again levels some (For c) fs zs f free over h = for_again levels some c fs zs f (sum_free (peek program zs) free) over h
+scheme_again levels some (For c) fs zs f free over h = for_again levels some c fs zs f.0 f.1 (sum_free (peek program zs) free) over h
 scheme_again levels some Endless fs zs f free over h = reaches_pure h
 
 -- the end of an exit
@@ -279,11 +281,11 @@ exit_again levels place condition fs zs f h =
 module _ (inner : Reader (List Stmt)) (levels : ℕ) (stmt_shrinks : Shrinks sees_stmt (item_step (stmt inner levels))) (arm_shrinks : 0 < levels → Shrinks (sees program k.Elsif) (item_step (elsif_arm inner levels)))
     (alternative_shrinks : 0 < levels → Shrinks (sees program k.When) (item_step (alternative inner levels)))
     (again : 0 < levels → (xs : List Stmt) (fs zs : List Form) → IsInner levels xs → sees_stmt zs ≡ false → fs ≡ written_stmts xs ++ zs → Reaches inner fs xs zs) where
-  assignment_again : (target : Name) (value : Expr) (fs zs : List Form) → IsExpr levels value → fs ≡ written_level (Stmt-F.Assignment target value) ++ zs → Reaches (assignment inner levels) fs (Assignment target value) zs
+  assignment_again : (target : Name) (value : Expr) (fs zs : List Form) → IsName levels target → IsExpr levels value → fs ≡ written_level (Stmt-F.Assignment target value) ++ zs → Reaches (assignment inner levels) fs (Assignment target value) zs
   unfolding assignment
-  assignment_again target value fs zs f h =
+  assignment_again target value fs zs g f h =
       let flat : written_level (Stmt-F.Assignment target value) ++ zs ≡ written_name program target ++ bare program k.Assignment ∷ (written_expr program value ++ bare program k.Semicolon ∷ zs) = simp append_assoc in
-      reaches_bind _ (name_again program target fs (bare program k.Assignment ∷ (written_expr program value ++ bare program k.Semicolon ∷ zs)) (λ e. cc) (h ∙ flat)) (λ us a.
+      reaches_bind _ (name_again program levels target fs (bare program k.Assignment ∷ (written_expr program value ++ bare program k.Semicolon ∷ zs)) g (omega arith) (h ∙ flat)) (λ us a.
       reaches_bind _ (reaches_expect program k.Assignment a) (λ vs b.
       reaches_bind _ (expression_again program levels value vs (bare program k.Semicolon ∷ zs) f (semicolon_free program zs) b) (λ ws d.
       reaches_bind _ (reaches_expect program k.Semicolon d) (λ xs e. reaches_pure e))))
@@ -415,7 +417,7 @@ module _ (inner : Reader (List Stmt)) (levels : ℕ) (stmt_shrinks : Shrinks see
       reaches_bind _ (reaches_expect program k.Semicolon a) (λ vs b. reaches_pure b))))
   level_again x (Stmt-F.Assignment target value) fs zs out f h =
       reaches_is (same_out x (Assignment target value) _ out (outs-Assignment target value))
-      (reaches_choose next_stmt (stmt_by inner levels) (Some kinds.Assignment) (ap next_stmt h ∙ target_first target _ zs) (assignment_again target value fs zs f h))
+      (reaches_choose next_stmt (stmt_by inner levels) (Some kinds.Assignment) (ap next_stmt h) (assignment_again target value fs zs f.0 f.1 h))
   level_again x (Stmt-F.If arms otherwise closing) fs zs out f h =
       reaches_is (same_out x (If arms otherwise closing) _ out (outs-If arms otherwise closing))
       (reaches_choose next_stmt (stmt_by inner levels) (Some kinds.If) (ap next_stmt (h ∙ if_flat arms otherwise closing zs) ∙ arms_first levels arms _ f.1) (if_again f.0 arms otherwise closing fs zs f.1 f.2 h))

@@ -1,10 +1,10 @@
 use Rattle.std.proofs.Common.{refl}
 use denote.Hole.Carrier.{hidden}
-use Rattle.spx_tree.specs.declared.expression.Expr.TheBlock.{hidden-the_row-Expr-0}
+use Rattle.spx_tree.specs.declared.expression.Expr.TheBlock.{hidden-the_row-Expr-0, hidden-the_row-Expr-1}
 use Rattle.spx_core.specs.Regions.{standard}
 use Rattle.spx_examples.proofs.NameBreaches.{breach_is}
 use Rattle.spx_examples.proofs.name_rule_laws.names_of_procedures_come_first.Goals as goal
 
 pub returns-clause-other_name : goal.returns-clause-other_name
-unfolding standard hidden-the_row-Expr-0 hidden
+unfolding standard hidden-the_row-Expr-0 hidden-the_row-Expr-1 hidden
 returns-clause-other_name c = breach_is _ _ _ _ refl

@@ -6,8 +6,8 @@ use Rattle.spx_term.specs.declared.term.Term.TheVariants.{Infix, Number}
 use Rattle.spx_core.specs.Uses.{variable_of}
 use Rattle.spx_formula.specs.declared.entered.Entered.{Entered}
 use Rattle.spx_formula.specs.EntryNames.{meant, present_term}
-use Rattle.spx_formula.specs.Terms.{element_term, field_term, member_term, moved_term, named, signed_term}
-use Rattle.spx_formula.proofs.Expressions.{applied_term, attribute_term, element_is, entry_term, field_is, implicit_term, in_range_term, in_type_term, infix_term, name_term, number_term, parenthesized_term, prefix_term, static_is}
+use Rattle.spx_formula.specs.Terms.{element_term, end_term, field_term, member_term, moved_term, named, signed_term}
+use Rattle.spx_formula.proofs.Expressions.{applied_term, attribute_term, element_is, end_is, entry_term, faulty_term, field_is, implicit_term, in_range_term, in_type_term, infix_term, name_term, number_term, parenthesized_term, prefix_term, static_is}
 use Rattle.spx_formula.proofs.TermLaws.{made_along, made_by, made_element, made_field, made_infix, made_member, made_moved, made_signed, number_made}
 use Rattle.spx_formula.proofs.terms.+term_id.Goals as goal
 
@@ -77,3 +77,11 @@ returns-in_ok-prefix-in-Selected t c =
     let m = meant c.args.program.now c.args.entered.now in
     made_field c.field_id.result _ _ c.get-in-Selected-2.result.now c.in_ok-prefix-in-Selected.ensures c.field_id.ensures
     ((λ i. field_term (c.get-in-Selected-2.ensures i) (m (c.get-in-Selected.ensures i))) ∙ sym (field_is _ _ _ _ _ _ c.in-Selected.is))
+
+pub returns-in-ArrayAttribute : goal.returns-in-ArrayAttribute
+returns-in-ArrayAttribute t c =
+    made_along c.end_id.result _ _ _ c.end_id.ensures
+    (ap (λ x. end_term x c.in-ArrayAttribute.designator) c.get-in-ArrayAttribute.ensures ∙ sym (end_is _ _ _ _ _ _ c.in-ArrayAttribute.is))
+
+pub returns-in-Faulty : goal.returns-in-Faulty
+returns-in-Faulty t c = made_by c.make-in-Faulty.result _ c.make-in-Faulty.ensures.grown c.make-in-Faulty.ensures.made (sym (faulty_term _ _ _ _ c.in-Faulty.is))

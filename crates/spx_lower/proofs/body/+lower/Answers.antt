@@ -19,15 +19,15 @@ pub lowered-returns-in-None : goal.lowered-returns-in-None
 lowered-returns-in-None t c =
     let here = c.in-If in
     let arms = c.in_ok-arms-in-If in
-    IfOk-weaker c.boxed_branch.result _ _ (λ item is. ap effect_of is ∙ if_lowered c.args.stmt.now here.arms here.otherwise here.field-2 here.is c.in-None.is c.new.result arms.arms c.new-in-None.result c.new.ensures c.new-in-None.ensures (arms.ensures ∙ ap (map given_arm) (c.as_slice.ensures ∙ c.get-in-If.ensures))) c.boxed_branch.ensures
+    IfOk-weaker c.boxed_branch.result _ _ (λ item is. ap effect_of is ∙ if_lowered c.args.stmt.now here.arms here.otherwise here.field-2 here.is c.in-None.is c.new.result arms.arms c.new-in-None.result c.new.ensures c.new-in-None.ensures (arms.ensures ∙ ap (map given_arm) c.as_slice.ensures)) c.boxed_branch.ensures
 
 pub lowered-returns-in_ok-stmts-in-Some : goal.lowered-returns-in_ok-stmts-in-Some
 lowered-returns-in_ok-stmts-in-Some t c =
     let here = c.in-If in
     let arms = c.in_ok-arms-in-If in
     let otherwise = c.in_ok-stmts-in-Some in
-    IfOk-weaker c.boxed_branch-in-Some.result _ _ (λ item is. ap effect_of is ∙ else_lowered c.args.stmt.now here.arms here.otherwise c.in-Some.stmts here.field-2 here.is c.in-Some.is c.new-in-Some.result arms.arms otherwise.stmts c.new-in-Some.ensures (otherwise.ensures ∙ ap effects (c.as_slice-in-Some.ensures ∙ c.get-in-Some.ensures))
-    (arms.ensures ∙ ap (map given_arm) (c.as_slice.ensures ∙ c.get-in-If.ensures))) c.boxed_branch-in-Some.ensures
+    IfOk-weaker c.boxed_branch-in-Some.result _ _ (λ item is. ap effect_of is ∙ else_lowered c.args.stmt.now here.arms here.otherwise c.in-Some.stmts here.field-2 here.is c.in-Some.is c.new-in-Some.result arms.arms otherwise.stmts c.new-in-Some.ensures (otherwise.ensures ∙ ap effects c.as_slice-in-Some.ensures)
+    (arms.ensures ∙ ap (map given_arm) c.as_slice.ensures)) c.boxed_branch-in-Some.ensures
 
 pub lowered_case-returns : goal.lowered_case-returns
 lowered_case-returns t c =

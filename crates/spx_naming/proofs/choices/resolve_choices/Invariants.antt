@@ -4,4 +4,4 @@ use Rattle.spx_scope.specs.Seen.{seen}
 use Rattle.spx_naming.proofs.choices.resolve_choices.Given as goal
 
 abbrev pub invariant-loop-choice : goal.invariant-loop-choice
-invariant-loop-choice l = l.resolved ≡ map (resolved_choice (seen l.scope)) (take l.choice-index l.choices)
+invariant-loop-choice l = l.resolved ≡ map (resolved_choice l.scene (seen l.scope)) (take l.choice-index l.choices)

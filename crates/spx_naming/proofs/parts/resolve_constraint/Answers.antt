@@ -7,5 +7,5 @@ use Rattle.spx_naming.proofs.parts.resolve_constraint.Goals as goal
 pub returns-in_ok-new-in-Some : goal.returns-in_ok-new-in-Some
 returns-in_ok-new-in-Some c =
     let around = around_names (seen c.args.outer.now) c.args.region.now c.args.names.now in
-    let resolved = c.in_ok-new-in-Some.ensures ∙ c.in_ok-resolved-in-Some.ensures ∙ ap (resolved_range c.args.of around) c.get.ensures in
-    ap (λ (r : CoreRange). Some r) resolved ∙ ap (option_map (resolved_range c.args.of around)) (sym c.in-Some.is)
+    let resolved = c.in_ok-new-in-Some.ensures ∙ c.in_ok-resolved-in-Some.ensures ∙ ap (resolved_range c.args.scene.now c.args.of around) c.get.ensures in
+    ap (λ (r : CoreRange). Some r) resolved ∙ ap (option_map (resolved_range c.args.scene.now c.args.of around)) (sym c.in-Some.is)

@@ -1,6 +1,6 @@
 use Rattle.std.proofs.Common.{◌≡◌, ◌∷◌, ◌+◌, length, option_map, ap, ap₂, ◌∙◌}
 use Rattle.spx_core.specs.Dependency.{items_of}
-use Rattle.spx_core.specs.Resolved.{around_body, declared_by_decls, declaring_all, resolved_predicate, resolved_stmts}
+use Rattle.spx_core.specs.Resolved.{around_body, declared_by_decls, declaring_all, in_annotation, resolved_predicate, resolved_stmts}
 use Rattle.spx_scope.specs.Seen.{seen}
 use Rattle.spx_naming.proofs.Results.{holds_of}
 use Rattle.spx_naming.proofs.unit.resolve_inner.Goals as goal
@@ -10,7 +10,7 @@ returns-clause-post c =
     let around : seen c.inside-outer.result ≡ around_body c.args.name.now = c.inside-outer.ensures ∙ ap₂ (λ region outer. region ∷ outer) c.in_ok-own_name.ensures c.outermost-outermost.ensures in
     let items = items_of c.in_ok-derives.derives in
     holds_of _ _ _ c.new.ensures
-    (c.in_ok-body.ensures.post ∙ ap (λ outer. option_map (resolved_predicate items (c.args.formals ∷ outer)) c.args.subprogram.now.post) around)
+    (c.in_ok-body.ensures.post ∙ ap (λ outer. option_map (resolved_predicate (in_annotation c.args.tables.now.types items) (c.args.formals ∷ outer)) c.args.subprogram.now.post) around)
 
 pub returns-clause-statements : goal.returns-clause-statements
 returns-clause-statements c =
@@ -19,4 +19,4 @@ returns-clause-statements c =
     let body = c.in_ok-body.body in
     let region = declaring_all c.args.formals (declared_by_decls body.declarations) in
     holds_of _ _ _ c.new.ensures
-    (c.in_ok-body.ensures.statements ∙ ap (λ outer. (resolved_stmts items outer c.args.subprogram.now.statements region (length c.args.tables.now.vars + body.local_count)).0) around)
+    (c.in_ok-body.ensures.statements ∙ ap (λ outer. (resolved_stmts c.resolve_under.new.tables.types items outer c.args.subprogram.now.statements region (length c.args.tables.now.vars + body.local_count)).0) around)

@@ -1,7 +1,7 @@
 use Rattle.std.proofs.Common.{◌≡◌, ◌++◌, sym, subst}
 use Rattle.std.proofs.lemmas.Result.{IfOk-weaker}
 use Rattle.spx_core.specs.Resolved.{own_types, own_vars, resolved_sub}
-use Rattle.spx_naming.specs.Counting.{counts_of}
+use Rattle.spx_naming.specs.Before.{before_in}
 use Rattle.spx_naming.proofs.Subprograms.{whole}
 use Rattle.spx_naming.proofs.unit.resolve_subprogram.Goals as goal
 
@@ -17,5 +17,5 @@ returns c =
     c.in_ok-end_name.ensures c.in_ok-vars.ensures in
     IfOk-weaker c.new-2.result _ _
     (λ sub is.
-    subst (λ s. (s ≡ resolved_sub c.args.name (counts_of before) c.args.subprogram.now) × (after.vars ≡ before.vars ++ own_vars s) × (after.types ≡ before.types ++ own_types s))
-    (sym (rw (c.into_inner.ensures, c.into_inner-2.ensures, c.into_inner-body.ensures, c.into_inner-inner.ensures) at is)) (rw c.get.ensures at made)) c.new-2.ensures
+    subst (λ s. (s ≡ resolved_sub c.args.name (before_in before) c.args.subprogram.now) × (after.vars ≡ before.vars ++ own_vars s) × (after.types ≡ before.types ++ own_types s))
+    (sym (rw (c.into_inner.ensures, c.into_inner-body.ensures, c.into_inner-inner.ensures) at is)) (rw c.get.ensures at made)) c.new-2.ensures

@@ -7,4 +7,4 @@ use Rattle.spx_parse_unit.proofs.UnitsGood.{derives_shrinks}
 use Rattle.spx_parse_unit.proofs.annotations.items.Goals as goal
 
 pub more-smaller : goal.more-smaller
-more-smaller c = next_shorter annotation k.Ampersand item derives_shrinks _ _ _ _ (sym c.sees.ensures ∙ c.more-test.true) c.in_ok-expect.ensures c.in_ok-item-2.ensures
+more-smaller c = next_shorter annotation k.Ampersand (item c.args.levels) (derives_shrinks c.args.levels) _ _ _ _ (sym c.sees.ensures ∙ c.more-test.true) c.in_ok-expect.ensures c.in_ok-item-2.ensures

@@ -6,4 +6,4 @@ use Rattle.spx_parse_unit.proofs.UnitsGood.{names_shrinks}
 use Rattle.spx_parse_unit.proofs.annotations.more_names.Goals as goal
 
 pub more-smaller : goal.more-smaller
-more-smaller c = next_shorter c.args.marked k.Comma (name c.args.marked) (names_shrinks c.args.marked) _ _ _ _ (sym c.sees.ensures ∙ c.more-test.true) c.in_ok-expect.ensures c.in_ok-name.ensures
+more-smaller c = next_shorter c.args.marked k.Comma (name c.args.marked c.args.levels) (names_shrinks c.args.marked c.args.levels) _ _ _ _ (sym c.sees.ensures ∙ c.more-test.true) c.in_ok-expect.ensures c.in_ok-name.ensures

@@ -8,4 +8,4 @@ use Rattle.spx_parse_unit.proofs.UnitsGood.{fields_shrinks}
 use Rattle.spx_parse_unit.proofs.declarative.fields.Goals as goal
 
 pub more-smaller : goal.more-smaller
-more-smaller c = item_shorter (sees program k.Identifier) field fields_shrinks _ _ _ (sym c.sees.ensures ∙ c.more-test.true) c.in_ok-field-2.ensures
+more-smaller c = item_shorter (sees program k.Identifier) (field c.args.levels) (fields_shrinks c.args.levels) _ _ _ (sym c.sees.ensures ∙ c.more-test.true) c.in_ok-field-2.ensures

@@ -7,4 +7,4 @@ use Rattle.spx_parse_unit.proofs.UnitsGood.{params_shrinks}
 use Rattle.spx_parse_unit.proofs.subprograms.params.Goals as goal
 
 pub more-smaller : goal.more-smaller
-more-smaller c = next_shorter program k.Semicolon param params_shrinks _ _ _ _ (sym c.sees.ensures ∙ c.more-test.true) c.in_ok-expect.ensures c.in_ok-param-2.ensures
+more-smaller c = next_shorter program k.Semicolon (param c.args.levels) (params_shrinks c.args.levels) _ _ _ _ (sym c.sees.ensures ∙ c.more-test.true) c.in_ok-expect.ensures c.in_ok-param-2.ensures

@@ -24,7 +24,7 @@ pub judge_stmt-returns-in_err-of-in-Case : goal.judge_stmt-returns-in_err-of-in-
 judge_stmt-returns-in_err-of-in-Case t c =
     let here = c.in-Case in
     let h = case_judged c.args.stmt.now here.place here.selector here.alternatives here.field-3 here.is in
-    let found : c.judge_selector.result ≡ judged_selector here.place here.selector here.alternatives = cc (c.judge_selector.ensures, c.get-in-Case-2.ensures, c.get-in-Case-3.ensures, c.as_slice-alternatives.ensures, c.get-in-Case.ensures) in
+    let found : c.judge_selector.result ≡ judged_selector here.place here.selector here.alternatives = cc (c.judge_selector.ensures, c.get-in-Case.ensures, c.as_slice-alternatives.ensures) in
     let k = sym c.in_err-of-in-Case.was ∙ found in
     let e = sym (h ∙ ap (λ (x : Judged ExprType). x >>= λ of. judged_alternatives of (alternatives_in here.alternatives)) (sym k)) in
     search (rules, e)
@@ -33,7 +33,7 @@ pub judge_stmt-returns-in_ok-of-in-Case : goal.judge_stmt-returns-in_ok-of-in-Ca
 judge_stmt-returns-in_ok-of-in-Case t c =
     let here = c.in-Case in
     let h = case_judged c.args.stmt.now here.place here.selector here.alternatives here.field-3 here.is in
-    let found : c.judge_selector.result ≡ judged_selector here.place here.selector here.alternatives = cc (c.judge_selector.ensures, c.get-in-Case-2.ensures, c.get-in-Case-3.ensures, c.as_slice-alternatives.ensures, c.get-in-Case.ensures) in
+    let found : c.judge_selector.result ≡ judged_selector here.place here.selector here.alternatives = cc (c.judge_selector.ensures, c.get-in-Case.ensures, c.as_slice-alternatives.ensures) in
     let k = sym c.in_ok-of-in-Case.was ∙ found in
     let e = h ∙ ap (λ (x : Judged ExprType). x >>= λ of. judged_alternatives of (alternatives_in here.alternatives)) (sym k) in
-    c.judge_alternatives.ensures ∙ ap (λ alternatives. judged_alternatives c.in_ok-of-in-Case.of (alternatives_in alternatives)) (c.as_slice-alternatives.ensures ∙ c.get-in-Case.ensures) ∙ sym e
+    c.judge_alternatives.ensures ∙ ap (λ alternatives. judged_alternatives c.in_ok-of-in-Case.of (alternatives_in alternatives)) c.as_slice-alternatives.ensures ∙ sym e

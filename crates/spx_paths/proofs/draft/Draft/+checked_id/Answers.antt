@@ -11,7 +11,7 @@ use Rattle.spx_arena.specs.declared.terms.TermId.{TermId}
 use Rattle.spx_paths.specs.declared.draft.Draft.{Draft}
 use Rattle.spx_paths.specs.Waiting.{Checked}
 use Rattle.spx_paths.proofs.CheckSteps.{eval_applied, eval_element, eval_free, eval_implicit, eval_in_range, eval_in_type, eval_infix, eval_parenthesized, eval_prefix, eval_selected, eval_static, id_kept, ids_kept, keeps_twice, only_gives, only_keeps, term_gives, term_keeps}
-use Rattle.spx_paths.proofs.CheckLaws.{attribute_free, entry_free, name_free, number_free}
+use Rattle.spx_paths.proofs.CheckLaws.{attribute_free, end_free, entry_free, faulty_free, name_free, number_free}
 use Rattle.spx_paths.proofs.draft.Draft.+checked_id.Goals as goal
 
 -- the part that a box holds
@@ -47,6 +47,18 @@ checked_id-returns-in_ok-code_id-in-Attribute-clause-keeps t c = term_keeps c.re
 
 pub checked_id-returns-in_ok-code_id-in-Attribute-clause-makes : goal.checked_id-returns-in_ok-code_id-in-Attribute-clause-makes
 checked_id-returns-in_ok-code_id-in-Attribute-clause-makes t c = eval_free (term_gives c.requires.whole c.in_ok-code_id-in-Attribute.ensures) (λ ls. attribute_free c.args.program.now (now_term c.args.program.now) c.args.expr.now ls c.in-Attribute.field-0 c.in-Attribute.field-1 c.in-Attribute.is)
+
+pub checked_id-returns-in_ok-code_id-in-ArrayAttribute-clause-keeps : goal.checked_id-returns-in_ok-code_id-in-ArrayAttribute-clause-keeps
+checked_id-returns-in_ok-code_id-in-ArrayAttribute-clause-keeps t c = term_keeps c.requires.whole c.in_ok-code_id-in-ArrayAttribute.ensures
+
+pub checked_id-returns-in_ok-code_id-in-ArrayAttribute-clause-makes : goal.checked_id-returns-in_ok-code_id-in-ArrayAttribute-clause-makes
+checked_id-returns-in_ok-code_id-in-ArrayAttribute-clause-makes t c = eval_free (term_gives c.requires.whole c.in_ok-code_id-in-ArrayAttribute.ensures) (λ ls. end_free c.args.program.now (now_term c.args.program.now) c.args.expr.now ls c.in-ArrayAttribute.field-0 c.in-ArrayAttribute.field-1 c.in-ArrayAttribute.field-2 c.in-ArrayAttribute.is)
+
+pub checked_id-returns-in_ok-code_id-in-Faulty-clause-keeps : goal.checked_id-returns-in_ok-code_id-in-Faulty-clause-keeps
+checked_id-returns-in_ok-code_id-in-Faulty-clause-keeps t c = term_keeps c.requires.whole c.in_ok-code_id-in-Faulty.ensures
+
+pub checked_id-returns-in_ok-code_id-in-Faulty-clause-makes : goal.checked_id-returns-in_ok-code_id-in-Faulty-clause-makes
+checked_id-returns-in_ok-code_id-in-Faulty-clause-makes t c = eval_free (term_gives c.requires.whole c.in_ok-code_id-in-Faulty.ensures) (λ ls. faulty_free c.args.program.now (now_term c.args.program.now) c.args.expr.now ls c.in-Faulty.field-0 c.in-Faulty.is)
 
 pub checked_id-returns-in_ok-checked_id-in-Parenthesized-clause-makes : goal.checked_id-returns-in_ok-checked_id-in-Parenthesized-clause-makes
 checked_id-returns-in_ok-checked_id-in-Parenthesized-clause-makes t c = eval_parenthesized c.in-Parenthesized.field-0 c.in-Parenthesized.inner c.in-Parenthesized.is (at_part c.get.ensures c.in_ok-checked_id-in-Parenthesized.ensures.makes)

@@ -48,11 +48,11 @@ arms-loop-arm-preserved t c =
     let inv = c.loop-arm.invariant in
     let holds = step_tree c.stmts.new.self.steps c.in_ok-holds.holds in
     let fails = step_tree c.stmts.new.self.steps c.loop-arm.at in
-    let made = builds_as p sub first rest leave c.in_ok-holds.ensures.made (ap commands (sym (c.as_slice.ensures ∙ c.get.ensures))) in
-    let cuts = cuts_as first rest leave c.in_ok-holds.ensures.cuts (ap commands (sym (c.as_slice.ensures ∙ c.get.ensures))) in
+    let made = builds_as p sub first rest leave c.in_ok-holds.ensures.made (ap commands (sym c.as_slice.ensures)) in
+    let cuts = cuts_as first rest leave c.in_ok-holds.ensures.cuts (ap commands (sym c.as_slice.ensures)) in
     record {
       builds = subst (λ (xs : List CoreArm). BuildsArms p sub c.args.self.now c.decided.new.self xs c.args.otherwise rest leave c.in_ok-at.at) (sym (reversed_more c.loop-arm.yielded c.in-Some.arm))
-          (one_arm p sub arm arms c.args.otherwise rest leave inv.builds made (decided_as p (out-CoreArm arm).condition holds fails c.in_ok-at.ensures c.get-in-loop-arm.ensures));
+          (one_arm p sub arm arms c.args.otherwise rest leave inv.builds made (decided_as p (out-CoreArm arm).condition holds fails c.in_ok-at.ensures c.get.ensures));
       cuts = subst (λ (xs : List CoreArm). (on out : ℕ → Tree) → Stands c.args.self.now rest on → Stands c.args.self.now leave out → AddsCuts p sub c.decided.new.self c.args.cuts.now c.stmts.new.cuts (flat_map (arm_cuts p sub around on out) xs)) (sym (reversed_more c.loop-arm.yielded c.in-Some.arm))
           (one_part first (λ on out. flat_map (arm_cuts p sub around on out) arms) inv.builds.grown made.grown c.in_ok-at.ensures.grown inv.cuts cuts);
     }
@@ -71,7 +71,7 @@ stmt-returns-in_ok-id-in-If-clause-made t c =
     let leave = c.args.next.now.leave in
     let otherwise = c.done_otherwise-otherwise in
     builds_as p sub (command c.args.stmt.now) rest leave (all_arms p sub (commands otherwise.result.now) c.as_slice.result.now rest leave c.in_ok-last-in-If.ensures.made c.in_ok-id-in-If.ensures.made)
-    (if_is c.args.stmt.now c.in-If.arms c.in-If.otherwise c.in-If.field-2 c.in-If.is c.as_slice.result.now otherwise.result.now (c.as_slice.ensures ∙ c.get-in-If.ensures) otherwise.ensures)
+    (if_is c.args.stmt.now c.in-If.arms c.in-If.otherwise c.in-If.field-2 c.in-If.is c.as_slice.result.now otherwise.result.now c.as_slice.ensures otherwise.ensures)
 
 pub stmt-returns-in_ok-id-in-If-clause-cuts : goal.stmt-returns-in_ok-id-in-If-clause-cuts
 stmt-returns-in_ok-id-in-If-clause-cuts t c =
@@ -81,21 +81,21 @@ stmt-returns-in_ok-id-in-If-clause-cuts t c =
     let last = c.in_ok-last-in-If.ensures in
     let arms = c.in_ok-id-in-If.ensures in
     cuts_as (command c.args.stmt.now) rest leave (cuts_of_if (commands otherwise.result.now) c.as_slice.result.now rest leave last.made arms.made.grown last.cuts arms.cuts)
-    (if_is c.args.stmt.now c.in-If.arms c.in-If.otherwise c.in-If.field-2 c.in-If.is c.as_slice.result.now otherwise.result.now (c.as_slice.ensures ∙ c.get-in-If.ensures) otherwise.ensures)
+    (if_is c.args.stmt.now c.in-If.arms c.in-If.otherwise c.in-If.field-2 c.in-If.is c.as_slice.result.now otherwise.result.now c.as_slice.ensures otherwise.ensures)
 
 pub stmt-returns-in_ok-id-in-Case-clause-made : goal.stmt-returns-in_ok-id-in-Case-clause-made
 stmt-returns-in_ok-id-in-Case-clause-made t c =
     let x = c.in-Case in
     let cases = c.as_slice-cases.result.now in
     builds_as c.args.body.now.program.now c.args.body.now.sub.now (command c.args.stmt.now) c.args.next.now.rest c.args.next.now.leave (c.in_ok-id-in-Case.ensures.made x.field-0)
-    (case_is c.args.stmt.now x.field-0 x.selector x.alternatives x.field-3 x.is cases (c.as_slice-cases.ensures ∙ c.get-in-Case.ensures) ∙ ap (λ e. select x.field-0 e (map alternative cases)) (sym c.get-in-Case-2.ensures))
+    (case_is c.args.stmt.now x.field-0 x.selector x.alternatives x.field-3 x.is cases c.as_slice-cases.ensures ∙ ap (λ e. select x.field-0 e (map alternative cases)) (sym c.get-in-Case.ensures))
 
 pub stmt-returns-in_ok-id-in-Case-clause-cuts : goal.stmt-returns-in_ok-id-in-Case-clause-cuts
 stmt-returns-in_ok-id-in-Case-clause-cuts t c =
     let x = c.in-Case in
     let cases = c.as_slice-cases.result.now in
     cuts_as (command c.args.stmt.now) c.args.next.now.rest c.args.next.now.leave (c.in_ok-id-in-Case.ensures.cuts x.field-0)
-    (case_is c.args.stmt.now x.field-0 x.selector x.alternatives x.field-3 x.is cases (c.as_slice-cases.ensures ∙ c.get-in-Case.ensures) ∙ ap (λ e. select x.field-0 e (map alternative cases)) (sym c.get-in-Case-2.ensures))
+    (case_is c.args.stmt.now x.field-0 x.selector x.alternatives x.field-3 x.is cases c.as_slice-cases.ensures ∙ ap (λ e. select x.field-0 e (map alternative cases)) (sym c.get-in-Case.ensures))
 
 pub stmts-loop-stmt-init : goal.stmts-loop-stmt-init
 stmts-loop-stmt-init t c = record {
