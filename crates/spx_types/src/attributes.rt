@@ -25,7 +25,7 @@ fn is_attribute(designator: &Text) -> bool
 }
 
 /// The value of `'First` or `'Last`.
-fn attribute_of(subtype: Subtype, designator: &Text) -> i128
+pub fn attribute_of(subtype: Subtype, designator: &Text) -> i128
     ensures { result ≡ rules.attribute_of subtype designator.now }
 {
     if is_first(designator) {

@@ -19,6 +19,7 @@ mod targets;
 mod types;
 mod values;
 
+pub use attributes::attribute_of;
 pub use expression::{condition, judge, operand_of, static_at, static_value, type_of};
 pub use functions::application;
 pub use membership::ordered_type;
