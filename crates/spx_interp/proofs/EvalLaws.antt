@@ -4,8 +4,9 @@ use Rattle.std.specs.Prelude.{if◌then◌else◌}
 use Rattle.spx_text.specs.declared.place.Place.{Place}
 use Rattle.spx_tree.specs.declared.expression.Identifier.{Identifier}
 use Rattle.spx_core.specs.declared.expression.CoreExpr.{CoreExpr}
-use Rattle.spx_core.specs.declared.expression.CoreExpr.TheVariants.{Number, Entry, Parenthesized, Element, Selected}
+use Rattle.spx_core.specs.declared.expression.CoreExpr.TheVariants.{Number, Entry, Parenthesized, Element, Selected, Faulty}
 use Rattle.spx_core.specs.declared.name.CoreName.{CoreName}
+use Rattle.spx_core.specs.declared.name.FaultyName.{FaultyName}
 use Rattle.spx_core.specs.declared.part.Indexing.{Indexing}
 use Rattle.spx_core.specs.declared.part.Selection.{Selection}
 use Rattle.spx_core.specs.declared.rule.ExprType.{ExprType}
@@ -14,15 +15,15 @@ use Rattle.spx_core.specs.declared.rule.Typing.{Typing}
 use Rattle.spx_core.specs.Judged.{Judged, ◌>>=◌, expr_step, indexed, judged, keeps, named_object, typing}
 use Rattle.spx_core.specs.Types.{is_parted, is_typed_at}
 use Rattle.spx_core.specs.declared.rule.RuleName.TheVariants.{N10, N18}
-use Rattle.spx_core.proofs.Callers.Expressions.{induct, fold-Number, fold-Entry, fold-Parenthesized, fold-Element, fold-Selected}
+use Rattle.spx_core.proofs.Callers.Expressions.{induct, fold-Number, fold-Entry, fold-Parenthesized, fold-Element, fold-Faulty, fold-Selected}
 use Rattle.spx_term.specs.declared.value.Value.{Value}
 use Rattle.spx_term.specs.declared.value.Value.TheVariants as value
-use Rattle.spx_meaning.specs.Evaluation.{Answer, Gives, with_value, eval, eval_forms, eval-Number, eval-Name, eval-Entry, eval-Attribute, eval-Applied, eval-Parenthesized, eval-Implicit, eval-Prefix, eval-Infix, eval-InType, eval-InRange}
+use Rattle.spx_meaning.specs.Evaluation.{Answer, Gives, with_value, eval, eval_forms, eval-Number, eval-Name, eval-Entry, eval-Attribute, eval-Applied, eval-Parenthesized, eval-Implicit, eval-Prefix, eval-Infix, eval-InType, eval-InRange, eval-ArrayAttribute}
 use Rattle.spx_meaning.specs.Frames.{Frame}
 use Rattle.spx_meaning.specs.Literals.{literal, literal_in}
 use Rattle.spx_meaning.specs.Stores.{Store}
 use Rattle.spx_meaning.proofs.Callers.Annotations.{same_value}
-use Rattle.spx_meaning.proofs.Callers.Literals.{implicit_literal}
+use Rattle.spx_meaning.proofs.Callers.Literals.{end_literal, implicit_literal}
 use Rattle.spx_interp.specs.declared.stop.Stop.{Stop}
 use Rattle.spx_interp.specs.declared.stop.Stop.TheVariants as stop
 use Rattle.spx_interp.specs.Results.{Answers}
@@ -63,6 +64,10 @@ literal-Selected : (a : CoreExpr) (field : Identifier) (x : Selection) → liter
 literal-Selected a field x =
     ap literal_in (fold-Selected expr_step a field x) ∙ then_none (judged a) _ (λ t. then_none (keeps N10 t.place (is_typed_at x.record t.of)) _ (λ _. no_value (Of x.field.base) t.place))
 
+-- nor is a name that denotes nothing
+literal-Faulty : (faulty : FaultyName) → literal (Faulty faulty) ≡ None
+literal-Faulty faulty = ap literal_in (fold-Faulty expr_step faulty)
+
 literal-Number : (n : ℤ) (place : Place) → literal (Number n place) ≡ Some (value.Number n)
 literal-Number n place = ap literal_in (fold-Number expr_step n place)
 
@@ -82,6 +87,8 @@ eval_static f n s = induct (λ e. (x : Value) → literal e ≡ Some x → eval 
   in_range = λ op place a low high first second third x is. rw (eval-InRange f n s op place a low high, is);
   element = λ a place i part first second x is. absurd (let none : None ≡ Some x = sym (literal-Element a place i part) ∙ is in cc);
   selected = λ a field part first x is. absurd (let none : None ≡ Some x = sym (literal-Selected a field part) ∙ is in cc);
+  array_attribute = λ a designator ends first x is. eval-ArrayAttribute f n s a designator ends ∙ ap Gives (sym (end_literal a designator ends x is));
+  faulty = λ faulty x is. absurd (let none : None ≡ Some x = sym (literal-Faulty faulty) ∙ is in cc);
 })
 
 -- an operand without a value stops what wants it

@@ -7,7 +7,7 @@ ghost use Rattle.spx_meaning.specs.Bits.{computed};
 ghost use Rattle.spx_interp.specs.Results.{Computes, frame_of};
 
 use crate::body::Body;
-use crate::evaluation::{first_in, last_in};
+use crate::evaluation::{end_of, first_in, last_in};
 use crate::fault::RunFault;
 use crate::firsts::first_value;
 use crate::operand::Operand;
@@ -148,6 +148,8 @@ fn computed<'a>(
             let whole = computed(body, store, prefix.get())?;
             field(body, whole, selection.get())
         }
+        CoreExpr::ArrayAttribute(_, designator, ends) => Ok(end_of(ends.get(), designator)),
+        CoreExpr::Faulty(_) => Ok(Operand::number(0)),
     }
 }
 

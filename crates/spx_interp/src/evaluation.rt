@@ -7,7 +7,7 @@ ghost use Rattle.spx_term.specs.Meaning.{as_number, same_value};
 ghost use Rattle.spx_meaning.specs.declared.bad.BadKind.TheVariants as bad;
 ghost use Rattle.spx_core.specs.Judged.{application};
 ghost use Rattle.spx_core.specs.Places.{place_of};
-ghost use Rattle.spx_meaning.specs.Evaluation.{Gives, Fails, checked, decided, eval, first_in, in_base, in_index, last_in, mapping_checked, read, signed, static_or, within_bounds};
+ghost use Rattle.spx_meaning.specs.Evaluation.{Gives, Fails, checked, decided, end_value, eval, first_in, in_base, in_index, last_in, mapping_checked, read, signed, static_or, within_bounds};
 ghost use Rattle.spx_meaning.specs.Literals.{base_of, literal};
 ghost use Rattle.spx_meaning.specs.Stores.{is_within, types_of};
 ghost use Rattle.spx_meaning.specs.Parts.{element_value, field_value};
@@ -22,14 +22,14 @@ use crate::parts::{PlacedStep, part};
 use crate::slots::look;
 use crate::stop::{Stop, answer};
 use spx_core::{
-    BaseType, Class, CoreExpr, CoreFunction, Indexing, Reference, Selection, Span, VarId,
+    ArrayEnds, BaseType, Class, CoreExpr, CoreFunction, Indexing, Reference, Selection, Span, VarId,
     variable_of,
 };
 use spx_meaning::{Bad, BadKind, Value, is_same, is_within};
 use spx_static::{base_of, literal, subtype_of};
 use spx_text::Place;
-use spx_tree::{InfixOp, PrefixOp};
-use spx_types::application;
+use spx_tree::{Identifier, InfixOp, PrefixOp};
+use spx_types::{application, attribute_of};
 
 /// The first value of the type that a name denotes.
 pub(crate) fn first_in<'a>(name: &Reference) -> Operand<'a>
@@ -290,6 +290,13 @@ fn field<'a>(body: &Body, whole: Operand<'a>, selection: &Selection) -> Result<O
     Ok(field)
 }
 
+/// `First` or `Last` of an array, which is that of its index.
+pub(crate) fn end_of<'a>(ends: &ArrayEnds, designator: &Identifier) -> Operand<'a>
+    ensures { result ≡ end_value ends.now designator.now }
+{
+    Operand::number(attribute_of(ends.index, &designator.text))
+}
+
 /// The value of an expression within a bound. A static one stands for its value.
 #[cycle(eval)]
 #[tactic(auto, using(crate::proofs::EvalLaws::eval_laws))]
@@ -348,6 +355,8 @@ pub(crate) fn eval<'a>(
             let whole = eval(body, turns, store, prefix.get())?;
             field(body, whole, selection.get())
         }
+        CoreExpr::ArrayAttribute(_, designator, ends) => Ok(end_of(ends.get(), designator)),
+        CoreExpr::Faulty(_) => Ok(Operand::number(0)),
     }
 }
 

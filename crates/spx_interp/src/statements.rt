@@ -150,11 +150,11 @@ fn run_stmt(
             run_assignment(body, turns, store, target.get(), expr.get())
         }
         CoreStmt::If(arms, otherwise, _) => {
-            match first_arm(body, turns, store, arms.get().as_slice()) {
+            match first_arm(body, turns, store, arms.as_slice()) {
                 Ok(found) => match found {
-                    Some(k) => run_arm(body, turns, store, arms.get().as_slice(), k),
+                    Some(k) => run_arm(body, turns, store, arms.as_slice(), k),
                     None => match otherwise {
-                        Some(stmts) => run_stmts(body, turns, store, stmts.get().as_slice()),
+                        Some(stmts) => run_stmts(body, turns, store, stmts.as_slice()),
                         None => Ok(Step::Ended),
                     },
                 },
@@ -162,11 +162,11 @@ fn run_stmt(
             }
         }
         CoreStmt::Case(_, selector, alternatives, _) => {
-            let alternatives = alternatives.get().as_slice();
+            let alternatives = alternatives.as_slice();
             run_case(body, turns, store, alternatives, selector.get())
         }
         CoreStmt::Loop(scheme, _, stmts, _) => {
-            run_loop(body, turns, store, stmts.get().as_slice(), scheme.get())
+            run_loop(body, turns, store, stmts.as_slice(), scheme)
         }
         CoreStmt::Assertion(kind, place, condition) => {
             look_at(body, store, untrue(*kind), *place, condition.get())
@@ -188,7 +188,7 @@ fn run_arm(
     requires room { ArmsHaveRoom (length store.old) arms.now }
     ensures { Done result store.new (ran (frame_of body.now) turns store.old (arm_at arms.now k)) }
 {
-    run_stmts(body, turns, store, arms[k].body.get().as_slice())
+    run_stmts(body, turns, store, arms[k].body.as_slice())
 }
 
 /// Runs the alternative for the value of the selector. Where there is no alternative, nothing is done.

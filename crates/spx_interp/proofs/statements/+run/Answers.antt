@@ -71,8 +71,8 @@ run_stmt-run_arm-requires t c =
     let here = c.in-If in
     let k = c.in-Some.k in
     let size = length c.args.store.now in
-    let second = c.as_slice-in-Some.ensures ∙ c.get-in-Some.ensures in
-    let same = c.as_slice.ensures ∙ c.get-in-If.ensures ∙ sym second in
+    let second = c.as_slice-in-Some.ensures in
+    let same = c.as_slice.ensures ∙ sym second in
     let found = subst (λ found. IfSome found (λ i. i < length c.as_slice.result.now)) c.in-Some.is c.in-Ok.ensures.within in
     let arms = room_of_if size c.args.stmt.now here.arms here.otherwise here.field-2 here.is c.requires in
     (search (rules, the_lemmas), (subst (λ (xs : List CoreArm). k < length xs) same found, subst (ArmsHaveRoom size) (sym second) arms))
@@ -82,14 +82,14 @@ run_stmt-run_stmts-requires t c =
     let here = c.in-If in
     let room = subst (HasRoom (length c.args.store.now)) (command-If-else c.args.stmt.now here.arms here.otherwise c.in-Some-otherwise.stmts here.field-2 here.is c.in-Some-otherwise.is) c.requires in
     let parts = room_of_arms (length c.args.store.now) (commands c.in-Some-otherwise.stmts) here.arms room in
-    (search (rules, the_lemmas), subst (λ (ss : List CoreStmt). HasRoom (length c.args.store.now) (commands ss)) (sym (c.as_slice-in-Some-otherwise.ensures ∙ c.get-in-Some-otherwise.ensures)) parts.1)
+    (search (rules, the_lemmas), subst (λ (ss : List CoreStmt). HasRoom (length c.args.store.now) (commands ss)) (sym (c.as_slice-in-Some-otherwise.ensures)) parts.1)
 
 pub run_stmt-run_case-requires : goal.run_stmt-run_case-requires
 run_stmt-run_case-requires t c =
     let here = c.in-Case in
     let size = length c.args.store.now in
     let room = subst (HasRoom size) (command-Case c.args.stmt.now here.field-0 here.selector here.alternatives here.field-3 here.is) c.requires in
-    (search (rules, the_lemmas), subst (AlternativesHaveRoom size) (sym (c.as_slice-alternatives.ensures ∙ c.get-in-Case.ensures)) (room_of_alternatives size here.field-0 here.selector here.alternatives room))
+    (search (rules, the_lemmas), subst (AlternativesHaveRoom size) (sym (c.as_slice-alternatives.ensures)) (room_of_alternatives size here.field-0 here.selector here.alternatives room))
 
 pub run_stmt-returns-in-Null : goal.run_stmt-returns-in-Null
 run_stmt-returns-in-Null t c =
@@ -105,7 +105,7 @@ run_stmt-returns-in-None-otherwise t c =
     let n = c.args.turns in
     let s = c.args.store.now in
     let arms = c.as_slice.result.now in
-    ap (ran f n s) (command-If c.args.stmt.now here.arms here.otherwise here.field-2 here.is c.in-None-otherwise.is ∙ ap (λ xs. arms_before Skip (map arm_before xs)) (sym (c.as_slice.ensures ∙ c.get-in-If.ensures)))
+    ap (ran f n s) (command-If c.args.stmt.now here.arms here.otherwise here.field-2 here.is c.in-None-otherwise.is ∙ ap (λ xs. arms_before Skip (map arm_before xs)) (sym (c.as_slice.ensures)))
     ∙ subst (λ found. OnArm (Ok found) (λ k. ran f n s (arm_at arms k)) (ran f n s Skip) (ran f n s (arms_before Skip (map arm_before arms)))) c.in-None.is (c.in-Ok.ensures.runs Skip)
     ∙ ran-Skip f n s
 
@@ -127,7 +127,7 @@ run_arm-returns t c =
     let f = frame_of c.args.body.now in
     let s = c.args.store.now in
     subst (Done c.run_stmts.result c.run_stmts.new.store)
-    (sym (ap (ran f c.args.turns s) (arm_at_is c.args.arms.now c.args.k c.index-arms-k.result c.requires.within ∙ ap commands (sym (c.as_slice.ensures ∙ c.get.ensures))))) c.run_stmts.ensures
+    (sym (ap (ran f c.args.turns s) (arm_at_is c.args.arms.now c.args.k c.index-arms-k.result c.requires.within ∙ ap commands (sym (c.as_slice.ensures))))) c.run_stmts.ensures
 
 pub run_case-returns-then-is_empty : goal.run_case-returns-then-is_empty
 run_case-returns-then-is_empty t c place =
