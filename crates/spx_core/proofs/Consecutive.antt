@@ -41,7 +41,11 @@ use Rattle.spx_core.specs.declared.program.Var.{Var}
 use Rattle.spx_core.specs.declared.program.Program.{Program}
 use Rattle.spx_core.specs.Formals.{stands_in}
 use Rattle.spx_core.specs.Regions.{Region, Regions}
-use Rattle.spx_core.specs.Resolved.{around_formals, around_names, bounded, constant_of, counted, Before, Scene, in_code, in_declaration, next_type, declared_by, declared_by_decls, declared_by_params, declared_by_scheme, declaring, declaring_all, defining, defining_all, enumeration_type, id_at, integer_type, local_kind, meant_at, mode_of, narrowed, object_of, params_of, positions, referred_subtype, resolved_decl, resolved_decls, resolved_formal_part, resolved_param, resolved_params, resolved_range, resolved_reference, resolved_scheme, resolved_type, rows_by, rows_by_decls, standard_types, static_value, var_in, var_of, variable_at, variables_by, variables_by_decls, resolved_static}
+use Rattle.spx_core.specs.ResolvedExpressions.{Scene, in_code, in_declaration, resolved_range, resolved_reference, static_value, resolved_static}
+use Rattle.spx_core.specs.DeclaredNames.{around_names, declaring, declaring_all, defining, defining_all, meant_at, object_of, variable_at}
+use Rattle.spx_core.specs.ResolvedStatements.{declared_by_scheme, resolved_scheme}
+use Rattle.spx_core.specs.ResolvedDeclarations.{bounded, constant_of, counted, Before, next_type, declared_by, declared_by_decls, declared_by_params, enumeration_type, id_at, integer_type, local_kind, mode_of, narrowed, referred_subtype, resolved_decl, resolved_decls, resolved_param, resolved_params, resolved_type, rows_by, rows_by_decls, variables_by, variables_by_decls}
+use Rattle.spx_core.specs.Resolved.{around_formals, params_of, positions, resolved_formal_part, standard_types, var_in, var_of}
 use Rattle.spx_core.specs.declared.rule.ExprType.TheVariants.{Universal}
 use Rattle.spx_core.specs.Scopes.{object_declared, object_in}
 use Rattle.spx_core.proofs.Positions.{InTurn, in_turn_append}

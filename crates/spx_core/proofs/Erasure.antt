@@ -49,8 +49,13 @@ use Rattle.spx_core.specs.Statements.{Typed, first_name_breach, judged_program}
 use Rattle.spx_core.proofs.Callers.Bodies.{all_are_units}
 use Rattle.spx_core.proofs.Judgements.{unbroken}
 use Rattle.spx_core.proofs.ResolvedParts.{IsStmt, null, assignment, if_then, if_else, case_of, loop, assertion, exit, IsArm, arm, IsAlternative, alternative, AreStmts, no_stmts, more_stmts, AreArms, no_arms, more_arms, AreAlternatives, no_alternatives, more_alternatives, stmts_are}
+use Rattle.spx_core.specs.ResolvedExpressions as resolved_expressions
 use Rattle.spx_core.specs.Resolved as resolved
-use Rattle.spx_core.specs.Resolved.{after_formals, around_body, around_formals, around_names, at_start, counted, counted_sub, Before, Scene, in_annotation, in_code, in_declaration, rows_by_decls, type_of_target, declared_by, declaring, declaring_all, defining, defining_all, exported_names, formal_names, items_for, meant_at, place_of_null, resolved_choice, resolved_decl, resolved_decls, resolved_derives, resolved_expr, resolved_field, resolved_fields, resolved_formal_part, resolved_in, resolved_item, resolved_name, resolved_param, resolved_params, resolved_predicate, resolved_range, resolved_reference, resolved_scheme, resolved_sub, resolved_subs, resolved_target, resolved_type, unit_name, own_region, declared_before, resolved_count, resolved_condition, resolved_static, type_named}
+use Rattle.spx_core.specs.ResolvedExpressions.{Scene, in_annotation, in_code, in_declaration, type_of_target, resolved_expr, resolved_in, resolved_name, resolved_range, resolved_reference, resolved_target, resolved_condition, resolved_static}
+use Rattle.spx_core.specs.DeclaredNames.{around_names, declaring, declaring_all, defining, defining_all, meant_at}
+use Rattle.spx_core.specs.ResolvedStatements.{exported_names, place_of_null, resolved_choice, resolved_derives, resolved_item, resolved_predicate, resolved_scheme, resolved_count, type_named}
+use Rattle.spx_core.specs.ResolvedDeclarations.{counted, Before, rows_by_decls, declared_by, resolved_decl, resolved_decls, resolved_field, resolved_fields, resolved_param, resolved_params, resolved_type}
+use Rattle.spx_core.specs.Resolved.{after_formals, around_body, around_formals, at_start, counted_sub, formal_names, items_for, resolved_formal_part, resolved_sub, resolved_subs, unit_name, own_region, declared_before}
 use Rattle.spx_core.proofs.ContextLaws.{erased_in_context}
 use Rattle.spx_core.proofs.WrittenNames.{target_written, value_written}
 
@@ -79,7 +84,7 @@ module _ (scene : Scene) (regions : Regions) where
   kept_parts : (parts : List Shown) → map erased_expr (map (resolved_in scene regions) (map (λ e. e.0) parts)) ≡ map (λ e. e.0) parts
   kept_parts parts = shown_written (resolved_in scene regions) (λ e is. is) parts
 
-  at_layer : (y : Expr-F Shown) → erased_expr (resolved.expr_step scene regions (map-Expr Expr CoreExpr (resolved_in scene regions) (map-Expr Shown Expr (λ e. e.0) y))) ≡ roll-Expr (map-Expr Shown Expr (λ e. e.0) y)
+  at_layer : (y : Expr-F Shown) → erased_expr (resolved_expressions.expr_step scene regions (map-Expr Expr CoreExpr (resolved_in scene regions) (map-Expr Shown Expr (λ e. e.0) y))) ≡ roll-Expr (map-Expr Shown Expr (λ e. e.0) y)
   unfolding roll-Expr roll-CoreExpr roll
   at_layer (Expr-F.Number n place) = erased_at (CoreExpr-F.Number n place)
   at_layer (Expr-F.Name path parts) = value_written scene path.root (denoted regions path.root.text) path.steps (map (resolved_in scene regions) (map (λ e. e.0) parts)) ∙ ap (expr.Name path) (kept_parts parts)
@@ -94,7 +99,7 @@ module _ (scene : Scene) (regions : Regions) where
       ∙ ap₂ (expr.InRange op place a.0) low.1 high.1
 
   layer : (y : Expr-F Shown) → Kept (roll-Expr (map-Expr Shown Expr (λ e. e.0) y))
-  layer y = ap erased_expr (fold-roll-Expr CoreExpr (resolved.expr_step scene regions) (map-Expr Shown Expr (λ e. e.0) y)) ∙ at_layer y
+  layer y = ap erased_expr (fold-roll-Expr CoreExpr (resolved_expressions.expr_step scene regions) (map-Expr Shown Expr (λ e. e.0) y)) ∙ at_layer y
 
   kept_in : (e : Expr) → Kept e
   kept_in = ind-Expr Kept (λ x y is. subst (λ z. Kept (roll-Expr z)) is (layer y))

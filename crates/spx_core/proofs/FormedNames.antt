@@ -29,7 +29,7 @@ use Rattle.spx_core.specs.Contexts.{in_context}
 use Rattle.spx_core.specs.NamedParts.{along, form_in}
 use Rattle.spx_core.specs.Parts.{IsAsFormed, Part, an_element, a_field, field_of_form, form_at, parts_in, parts_on_way, parts_step}
 use Rattle.spx_core.specs.Regions.{Regions, denoted}
-use Rattle.spx_core.specs.Resolved.{Scene, in_code, resolved_in, resolved_name, resolved_target, step_in_context, target_along, target_at, target_of}
+use Rattle.spx_core.specs.ResolvedExpressions.{Scene, in_code, resolved_in, resolved_name, resolved_target, step_in_context, target_along, target_at, target_of}
 use Rattle.spx_core.proofs.Callers.Expressions.{fold-Number, fold-Name, fold-Entry, fold-Attribute, fold-Applied, fold-Parenthesized, fold-Prefix, fold-Infix, fold-InType, fold-InRange, fold-Element, fold-Selected, fold-ArrayAttribute, fold-Faulty}
 use Rattle.spx_core.proofs.Callers.ListTests.{each_append}
 use Rattle.spx_core.proofs.ContextLaws.{parts_in_context}

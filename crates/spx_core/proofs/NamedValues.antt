@@ -37,7 +37,7 @@ use Rattle.spx_core.specs.Judged.{is_attribute}
 use Rattle.spx_core.specs.NamedParts.{Along, OneStep, along, ends_at, field_named, field_step, followed, form_in, going, part_step}
 use Rattle.spx_core.specs.Parts.{Part, an_element, a_field}
 use Rattle.spx_core.specs.Regions.{Regions, denoted}
-use Rattle.spx_core.specs.Resolved.{Scene, array_end, entry_of, expr_step, or_faulty, part_value, resolved_in, resolved_name, value_along, value_at, value_of_other, value_of_path, value_of_variable}
+use Rattle.spx_core.specs.ResolvedExpressions.{Scene, array_end, entry_of, expr_step, or_faulty, part_value, resolved_in, resolved_name, value_along, value_at, value_of_other, value_of_path, value_of_variable}
 
 -- a field that is found is one of the record's fields, with its type
 abbrev FieldFound : TypeId → (ℕ → Option Field) → Option Selection → Type 0

@@ -28,7 +28,10 @@ use Rattle.spx_core.specs.Uses.{denotes, is_same, mentions, uses, variable_of}
 use Rattle.spx_core.specs.NamedParts.{along}
 use Rattle.spx_core.specs.Reads.{names_on_way, names_read, names_step}
 use Rattle.spx_core.specs.Regions.{Declaration, Region, Regions, declared_in, denoted, hidden, standard}
-use Rattle.spx_core.specs.Resolved.{Scene, around_body, declaring, declaring_all, in_code, referred_subtype, resolved_in, resolved_name, resolved_reference, resolved_target, standard_types, step_in_context, subtype_of, target_along, target_at, target_of}
+use Rattle.spx_core.specs.ResolvedExpressions.{Scene, in_code, resolved_in, resolved_name, resolved_reference, resolved_target, step_in_context, target_along, target_at, target_of}
+use Rattle.spx_core.specs.DeclaredNames.{declaring, declaring_all, subtype_of}
+use Rattle.spx_core.specs.ResolvedDeclarations.{referred_subtype}
+use Rattle.spx_core.specs.Resolved.{around_body, standard_types}
 use Rattle.spx_core.proofs.Callers.Expressions.{fold-Number, fold-Name, fold-Entry, fold-Attribute, fold-Applied, fold-Parenthesized, fold-Prefix, fold-Infix, fold-InType, fold-InRange, fold-Element, fold-Selected, fold-ArrayAttribute, fold-Faulty}
 use Rattle.spx_core.proofs.Callers.ListTests.{each_append, some_mapped}
 use Rattle.spx_core.proofs.Callers.Variables.{same_var}

@@ -21,8 +21,10 @@ use Rattle.spx_core.specs.declared.statement.CoreArm.{CoreArm}
 use Rattle.spx_core.specs.declared.statement.CoreAlternative.{CoreAlternative}
 use Rattle.spx_core.specs.declared.program.TypeRow.{TypeRow}
 use Rattle.spx_core.specs.Regions.{Region, Regions}
-use Rattle.spx_core.specs.Resolved as resolved
-use Rattle.spx_core.specs.Resolved.{Part, assignment_to, in_annotation, in_code, declared_by_scheme, declaring_all, in_order, parameters_by, parameters_by_alternative, parameters_by_arm, parameters_by_stmts, resolved_alternative, resolved_arm, resolved_choice, resolved_scheme, resolved_stmt, resolved_stmts, resolved_target, resolved_condition}
+use Rattle.spx_core.specs.ResolvedStatements as resolved
+use Rattle.spx_core.specs.ResolvedExpressions.{assignment_to, in_annotation, in_code, resolved_target, resolved_condition}
+use Rattle.spx_core.specs.DeclaredNames.{declaring_all}
+use Rattle.spx_core.specs.ResolvedStatements.{Part, declared_by_scheme, in_order, parameters_by, parameters_by_alternative, parameters_by_arm, parameters_by_stmts, resolved_alternative, resolved_arm, resolved_choice, resolved_scheme, resolved_stmt, resolved_stmts}
 use Rattle.spx_core.proofs.Callers.LoopParameters.{parameters-Null, parameters-Assignment, parameters-If, parameters-If-else, parameters-Case, parameters-Loop, parameters-Assertion, parameters-Exit, parameters-arm, parameters-alternative}
 
 -- In this innermost region and from this position on, the written part is resolved to the other, and its loops have these parameters.

@@ -60,7 +60,11 @@ use Rattle.spx_core.specs.Formals.{is_formal, is_local, mode_in, mode_of, stands
 use Rattle.spx_core.specs.Effects.{Effect, Read, chosen, counts, effect, effect_among, is_read, reads, reads_assigned, reads_of, sets, assigns, reads_in, reads_of_range}
 use Rattle.spx_core.specs.Obeyed.{mode_denoted}
 use Rattle.spx_core.specs.Regions.{Region, Regions}
-use Rattle.spx_core.specs.Resolved.{after_formals, around_body, at_start, counted_sub, Before, Scene, in_annotation, in_code, next_type, type_of_target, declaring, declaring_all, exported_names, formal_names, items_for, local_names, local_variables, own_types, own_vars, resolved_derives, resolved_expr, resolved_in, resolved_item, resolved_predicate, resolved_reference, resolved_sub, resolved_subs, resolved_target, standard_types, unit_name, var_of, around_names, declared_by_count, loop_names, object_of, positions, resolved_choice, resolved_count, resolved_range, resolved_condition, type_named}
+use Rattle.spx_core.specs.ResolvedExpressions.{Scene, in_annotation, in_code, type_of_target, resolved_expr, resolved_in, resolved_reference, resolved_target, resolved_range, resolved_condition}
+use Rattle.spx_core.specs.DeclaredNames.{declaring, declaring_all, around_names, object_of}
+use Rattle.spx_core.specs.ResolvedStatements.{exported_names, resolved_derives, resolved_item, resolved_predicate, declared_by_count, resolved_choice, resolved_count, type_named}
+use Rattle.spx_core.specs.ResolvedDeclarations.{Before, next_type}
+use Rattle.spx_core.specs.Resolved.{after_formals, around_body, at_start, counted_sub, formal_names, items_for, local_names, local_variables, own_types, own_vars, resolved_sub, resolved_subs, standard_types, unit_name, var_of, loop_names, positions}
 use Rattle.spx_core.proofs.ContextLaws.{reads_in_context}
 use Rattle.spx_core.proofs.FormedNames.{formed_in_context, front_form, target_formed}
 use Rattle.spx_core.proofs.Positions.{AllFrom, each_from}

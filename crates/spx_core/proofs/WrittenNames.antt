@@ -32,7 +32,7 @@ use Rattle.spx_core.specs.Judged.{is_attribute}
 use Rattle.spx_core.specs.NamedParts.{Along, OneStep, along, ends_at, field_named, field_step, followed, form_in, going, part_step}
 use Rattle.spx_core.specs.WrittenExpressions.{erased_expr, erased_step, named, parts_written, step_written, with_step}
 use Rattle.spx_core.specs.Erased.{erased_target}
-use Rattle.spx_core.specs.Resolved.{Scene, array_end, entry_of, faulty_value, or_faulty, part_value, step_in_context, target_at, target_of, value_along, value_at, value_of_other, value_of_path, value_of_variable}
+use Rattle.spx_core.specs.ResolvedExpressions.{Scene, array_end, entry_of, faulty_value, or_faulty, part_value, step_in_context, target_at, target_of, value_along, value_at, value_of_other, value_of_path, value_of_variable}
 use Rattle.spx_core.proofs.ContextLaws.{erased_in_context}
 use Rattle.spx_core.proofs.Callers.Expressions.{fold-Name, fold-Entry, fold-Attribute, fold-Applied, fold-Element, fold-Selected, fold-ArrayAttribute, fold-Faulty}
 

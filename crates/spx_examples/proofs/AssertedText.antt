@@ -31,7 +31,9 @@ use Rattle.spx_core.specs.declared.program.Program.{Program}
 use Rattle.spx_core.specs.declared.rule.ExprType.TheVariants.{Of}
 use Rattle.spx_core.specs.Contexts.{in_context}
 use Rattle.spx_core.specs.Regions.{standard}
-use Rattle.spx_core.specs.Resolved.{Scene, expr_step, in_annotation, parameters_by_stmts, resolved, resolved_condition, resolved_in, resolved_stmt, standard_types}
+use Rattle.spx_core.specs.ResolvedExpressions.{Scene, expr_step, in_annotation, resolved_condition, resolved_in}
+use Rattle.spx_core.specs.ResolvedStatements.{parameters_by_stmts, resolved_stmt}
+use Rattle.spx_core.specs.Resolved.{resolved, standard_types}
 use Rattle.spx_core.proofs.Callers.LoopParameters.{parameters-Assertion, parameters-Assignment}
 use Rattle.spx_examples.proofs.WrittenExpressions.{entry_fits, infix_fits, infix_written, name_written, number_fits, number_right, number_written, simple_fits}
 use Rattle.spx_examples.specs.Assertions.{is_next, is_positive, post_on, program_of}

@@ -16,7 +16,7 @@ use Rattle.spx_core.specs.declared.rule.Typing.{Typing}
 use Rattle.spx_core.specs.Contexts.{converted, in_context, is_open, is_static, left_takes, met_by_operand, met_in_range, right_takes, taken, taking, taking-Number, taking-Name, taking-Entry, taking-Attribute, taking-Applied, taking-Parenthesized, taking-Implicit, taking-Prefix, taking-Infix, taking-InType, taking-InRange, taking-Element, taking-Selected, taking-ArrayAttribute, taking-Faulty, type_given}
 use Rattle.spx_core.specs.Judged.{Judged, judged}
 use Rattle.spx_core.specs.Regions.{Regions}
-use Rattle.spx_core.specs.Resolved.{Scene, expr_step, resolved_in, resolved_value}
+use Rattle.spx_core.specs.ResolvedExpressions.{Scene, expr_step, resolved_in, resolved_value}
 use Rattle.spx_core.specs.Shapes.{applied_of, array_attribute_of, element_of, implicit_of, in_range_of, in_type_of, infix_of, parenthesized_of, prefix_of, selected_of}
 use Rattle.spx_context.proofs.Unchanged.{takes_none}
 use Rattle.spx_examples.specs.Names.{parenthesized, signed, operation, in_range}

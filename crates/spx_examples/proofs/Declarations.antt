@@ -37,7 +37,10 @@ use Rattle.spx_core.specs.Judged.{Judged, ◌>>=◌, breach_in, each, expr_step,
 use Rattle.spx_core.specs.Obeyed.{obeyed_post, obeyed_pre}
 use Rattle.spx_core.specs.Places.{place_in}
 use Rattle.spx_core.specs.Regions.{Region, Regions}
-use Rattle.spx_core.specs.Resolved.{Before, after_formals, around_body, around_names, at_start, bounded, constant_of, counted, counted_sub, declared_by, declared_by_decls, declaring as declared_after, declaring_all, defining, defining_all, formal_names, in_code, in_declaration, integer_type, next_type, object_of, or_zero, own_types, params_of, resolved, resolved_decl, resolved_decls, resolved_expr, resolved_reference, resolved_static, resolved_sub, resolved_target, row_with, rows_by, rows_by_decls, standard_types, subtype_of, type_of_target, unit_name, value_in}
+use Rattle.spx_core.specs.ResolvedExpressions.{in_code, in_declaration, or_zero, resolved_expr, resolved_reference, resolved_static, resolved_target, type_of_target, value_in}
+use Rattle.spx_core.specs.DeclaredNames.{around_names, declaring as declared_after, declaring_all, defining, defining_all, object_of, subtype_of}
+use Rattle.spx_core.specs.ResolvedDeclarations.{Before, bounded, constant_of, counted, declared_by, declared_by_decls, integer_type, next_type, resolved_decl, resolved_decls, row_with, rows_by, rows_by_decls}
+use Rattle.spx_core.specs.Resolved.{after_formals, around_body, at_start, counted_sub, formal_names, own_types, params_of, resolved, resolved_sub, standard_types, unit_name}
 use Rattle.spx_core.specs.Statements.{bound, declared_once, first_name_breach, judged_command, judged_decl, judged_end, judged_item, judged_name, judged_param, judged_predicate, static_between, static_number}
 use Rattle.spx_core.specs.Types.{has_numbers}
 use Rattle.spx_core.specs.Uses.{variable_of}

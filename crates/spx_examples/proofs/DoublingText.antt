@@ -33,7 +33,10 @@ use Rattle.spx_core.specs.declared.statement.CoreScheme.TheVariants as scheme
 use Rattle.spx_core.specs.declared.statement.CoreStmt.{CoreStmt}
 use Rattle.spx_core.specs.declared.statement.CoreStmt.TheVariants as stmt
 use Rattle.spx_core.specs.Regions.{Region, Regions, standard}
-use Rattle.spx_core.specs.Resolved.{Scene, around_body, around_names, declared_by_count, declaring_all, in_annotation, in_code, parameters_by_stmts, resolved, resolved_count, resolved_stmt, resolved_stmts, standard_types}
+use Rattle.spx_core.specs.ResolvedExpressions.{Scene, in_annotation, in_code}
+use Rattle.spx_core.specs.DeclaredNames.{around_names, declaring_all}
+use Rattle.spx_core.specs.ResolvedStatements.{declared_by_count, parameters_by_stmts, resolved_count, resolved_stmt, resolved_stmts}
+use Rattle.spx_core.specs.Resolved.{around_body, resolved, standard_types}
 use Rattle.spx_core.proofs.Callers.LoopParameters.{parameters-Assertion, parameters-Assignment, parameters-For}
 use Rattle.spx_examples.proofs.WrittenExpressions.{infix_fits, infix_written, name_written, number_fits, number_right, number_written, simple_fits}
 use Rattle.spx_examples.specs.Doubling.{add_two, asserting, closing, count, counting, double, double_declared, double_program, n_formal, number, relation, s_at, s_formal, s_is_twice_i, set_zero, two_more}

@@ -23,7 +23,8 @@ use Rattle.spx_core.specs.declared.statement.CoreStmt.{CoreStmt}
 use Rattle.spx_core.specs.declared.statement.CoreStmt.TheVariants as stmt
 use Rattle.spx_core.specs.Commands.{Command, Then, commands}
 use Rattle.spx_core.specs.Regions.{standard}
-use Rattle.spx_core.specs.Resolved.{parameters_by_stmts, resolved, resolved_stmt, resolved_stmts, standard_types}
+use Rattle.spx_core.specs.ResolvedStatements.{parameters_by_stmts, resolved_stmt, resolved_stmts}
+use Rattle.spx_core.specs.Resolved.{resolved, standard_types}
 use Rattle.spx_core.proofs.Callers.CommandForms.{command-Assignment, command-Endless, command-Exit}
 use Rattle.spx_core.proofs.Callers.LoopParameters.{parameters-Assignment, parameters-Endless, parameters-Exit}
 use Rattle.spx_examples.proofs.WrittenExpressions.{infix_fits, number_fits, number_right, simple_fits}

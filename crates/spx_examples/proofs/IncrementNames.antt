@@ -14,7 +14,10 @@ use Rattle.spx_core.specs.declared.program.Program.{Program}
 use Rattle.spx_core.specs.declared.rule.ExprType.TheVariants.{Of}
 use Rattle.spx_core.specs.Contexts.{in_context}
 use Rattle.spx_core.specs.Regions.{Region, Regions, denoted, standard}
-use Rattle.spx_core.specs.Resolved.{Scene, around_body, declaring, expr_step, in_code, parameters_by_stmts, resolved, resolved_condition, standard_types}
+use Rattle.spx_core.specs.ResolvedExpressions.{Scene, expr_step, in_code, resolved_condition}
+use Rattle.spx_core.specs.DeclaredNames.{declaring}
+use Rattle.spx_core.specs.ResolvedStatements.{parameters_by_stmts}
+use Rattle.spx_core.specs.Resolved.{around_body, resolved, standard_types}
 use Rattle.spx_core.proofs.Callers.LoopParameters.{parameters-Assignment}
 use Rattle.spx_examples.specs.Increment.{place, word, x_written, last_written, below_written, inc_written, inc_units, x, object, x_declared, inc_declared, below_last, successor, step, relation, inc, increment, x_at}
 use Rattle.spx_examples.specs.Names.{attribute, target_to, value_named}

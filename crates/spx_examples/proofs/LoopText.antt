@@ -22,7 +22,8 @@ use Rattle.spx_core.specs.declared.statement.CoreStmt.{CoreStmt}
 use Rattle.spx_core.specs.declared.statement.CoreStmt.TheVariants as stmt
 use Rattle.spx_core.specs.Commands.{Command, Repeat, Tested, commands}
 use Rattle.spx_core.specs.Regions.{standard}
-use Rattle.spx_core.specs.Resolved.{parameters_by_stmts, resolved, resolved_stmt, standard_types}
+use Rattle.spx_core.specs.ResolvedStatements.{parameters_by_stmts, resolved_stmt}
+use Rattle.spx_core.specs.Resolved.{resolved, standard_types}
 use Rattle.spx_core.proofs.Callers.LoopParameters.{parameters-Assignment, parameters-While}
 use Rattle.spx_examples.proofs.WrittenExpressions.{infix_fits, number_fits, number_right, simple_fits}
 use Rattle.spx_examples.specs.Increment.{place, x_written, successor_written, relation, successor, x_at}

@@ -25,7 +25,10 @@ use Rattle.spx_core.specs.Dependency.{relation}
 use Rattle.spx_core.specs.declared.subprogram.Sub.{Sub}
 use Rattle.spx_core.specs.Judged.{Judged, ◌>>=◌, breach_in, condition, each, if_there, judged, operand_of, referred_target}
 use Rattle.spx_core.specs.Regions.{Region, Regions}
-use Rattle.spx_core.specs.Resolved.{Scene, around_body, at_start, counted_sub, declaring, declaring_all, formal_names, in_annotation, in_code, local_names, local_variables, own_types, params_of, resolved_condition, resolved_expr, resolved_in, resolved_predicate, resolved_stmts, resolved_sub, resolved_subs, resolved_target, type_of_target, unit_name}
+use Rattle.spx_core.specs.ResolvedExpressions.{Scene, in_annotation, in_code, resolved_condition, resolved_expr, resolved_in, resolved_target, type_of_target}
+use Rattle.spx_core.specs.DeclaredNames.{declaring, declaring_all}
+use Rattle.spx_core.specs.ResolvedStatements.{resolved_predicate, resolved_stmts}
+use Rattle.spx_core.specs.Resolved.{around_body, at_start, counted_sub, formal_names, local_names, local_variables, own_types, params_of, resolved_sub, resolved_subs, unit_name}
 use Rattle.spx_core.specs.Statements.{first_name_breach, judged_name, judged_command, judged_decl, judged_end, judged_item, judged_param, judged_predicate, judged_sub}
 use Rattle.spx_examples.proofs.Computing.{judged_is, judged_now}
 use Rattle.spx_examples.proofs.Contexts.{met_is, met_now}

@@ -8,7 +8,7 @@ use Rattle.spx_core.specs.declared.entity.Entity.{Entity}
 use Rattle.spx_core.specs.declared.entity.Entity.TheVariants as entity
 use Rattle.spx_core.specs.declared.expression.CoreExpr.TheVariants as expr
 use Rattle.spx_core.specs.Regions.{Regions, denoted}
-use Rattle.spx_core.specs.Resolved.{Scene, resolved_in, resolved_name, resolved_value, value_of_path}
+use Rattle.spx_core.specs.ResolvedExpressions.{Scene, resolved_in, resolved_name, resolved_value, value_of_path}
 use Rattle.spx_examples.specs.Names.{path_of, simple, value_named, without_parts}
 use Rattle.spx_examples.proofs.Contexts.{resolution_is, resolved_at}
 

@@ -9,7 +9,9 @@ use Rattle.spx_core.specs.declared.statement.CoreArm.{fold-roll-CoreArm}
 use Rattle.spx_core.specs.declared.statement.CoreStmt.{CoreStmt}
 use Rattle.spx_core.specs.declared.statement.CoreStmt.TheVariants as stmt
 use Rattle.spx_core.specs.Regions.{Region, Regions, denoted, standard}
-use Rattle.spx_core.specs.Resolved.{around_body, declaring, parameters_by_stmts, parameters_in_alternative, parameters_in_arm, parameters_step, resolved, resolved_stmt, standard_types}
+use Rattle.spx_core.specs.DeclaredNames.{declaring}
+use Rattle.spx_core.specs.ResolvedStatements.{parameters_by_stmts, parameters_in_alternative, parameters_in_arm, parameters_step, resolved_stmt}
+use Rattle.spx_core.specs.Resolved.{around_body, resolved, standard_types}
 use Rattle.spx_core.proofs.Callers.LoopParameters.{parameters-Assignment, parameters-If}
 use Rattle.spx_examples.specs.Branches.{arm}
 use Rattle.spx_examples.specs.Increment.{place, x, object, successor, x_at}

@@ -37,7 +37,10 @@ use Rattle.spx_core.specs.declared.rule.ExprType.TheVariants.{Of}
 use Rattle.spx_core.specs.declared.subprogram.Sub.{Sub}
 use Rattle.spx_core.specs.Contexts.{in_context}
 use Rattle.spx_core.specs.Regions.{Region, Regions, denoted}
-use Rattle.spx_core.specs.Resolved.{Part, Scene, alternative_step, arm_step, assignment_to, at_start, declared_by_count, declaring_all, expr_step, formal_names, in_annotation, in_code, local_variables, parameters_by, parameters_by_stmts, positions, program_of, resolved, resolved_alternative, resolved_arm, resolved_condition, resolved_count, resolved_expr, resolved_in, resolved_stmt, resolved_stmts, resolved_sub, resolved_target, stmt_step, target_of, type_of_target, unit_name, var_of}
+use Rattle.spx_core.specs.ResolvedExpressions.{Scene, assignment_to, expr_step, in_annotation, in_code, resolved_condition, resolved_expr, resolved_in, resolved_target, target_of, type_of_target}
+use Rattle.spx_core.specs.DeclaredNames.{declaring_all}
+use Rattle.spx_core.specs.ResolvedStatements.{Part, alternative_step, arm_step, declared_by_count, parameters_by, parameters_by_stmts, resolved_alternative, resolved_arm, resolved_count, resolved_stmt, resolved_stmts, stmt_step}
+use Rattle.spx_core.specs.Resolved.{at_start, formal_names, local_variables, positions, program_of, resolved, resolved_sub, unit_name, var_of}
 use Rattle.spx_examples.specs.Increment.{place, word, x_written, successor_written, x, object, x_at, successor}
 use Rattle.spx_examples.specs.Branches.{arm}
 use Rattle.spx_examples.specs.Names.{path_of, target_to, value_named}

@@ -39,8 +39,10 @@ use Rattle.spx_core.specs.Extents.{extent, extent-Name, extent_in, extent_named,
 use Rattle.spx_core.specs.Judged.{Judged, ◌>>=◌, application, each, expr_step, if_there, judged, keeps, mapped, named_value}
 use Rattle.spx_core.specs.Places.{place_in, place_of}
 use Rattle.spx_core.specs.Regions.{Region, Regions}
-use Rattle.spx_core.specs.Resolved.{Part, Scene, around_body, in_code, or_zero, resolved_alternative, resolved_choice, resolved_condition, resolved_expr, resolved_name, resolved_static, resolved_stmt, value_in}
-use Rattle.spx_core.specs.Resolved as resolving
+use Rattle.spx_core.specs.ResolvedExpressions.{Scene, in_code, or_zero, resolved_condition, resolved_expr, resolved_name, resolved_static, value_in}
+use Rattle.spx_core.specs.ResolvedStatements.{Part, resolved_alternative, resolved_choice, resolved_stmt}
+use Rattle.spx_core.specs.Resolved.{around_body}
+use Rattle.spx_core.specs.ResolvedStatements as resolving
 use Rattle.spx_core.specs.Shapes as shape
 use Rattle.spx_core.specs.Statements.{are_given_once, first_name_breach, judged_command, static_at}
 use Rattle.spx_core.specs.Types.{is_ordered, is_same_type, lies_in}

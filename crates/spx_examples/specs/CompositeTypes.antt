@@ -11,7 +11,9 @@ use Rattle.spx_core.specs.declared.rule.RuleName.{RuleName}
 use Rattle.spx_core.specs.declared.statement.CoreDecl.{CoreDecl}
 use Rattle.spx_core.specs.Judged.{Judged}
 use Rattle.spx_core.specs.Regions.{Region, standard}
-use Rattle.spx_core.specs.Resolved.{at_start, composite_type, declared_by, declaring_all, resolved_decl, rows_by}
+use Rattle.spx_core.specs.DeclaredNames.{declaring_all}
+use Rattle.spx_core.specs.ResolvedDeclarations.{composite_type, declared_by, resolved_decl, rows_by}
+use Rattle.spx_core.specs.Resolved.{at_start}
 use Rattle.spx_core.specs.Statements.{judged_decl}
 use Rattle.spx_examples.specs.Increment.{place, word}
 use Rattle.spx_examples.specs.Names.{simple}

@@ -38,7 +38,8 @@ use Rattle.spx_core.specs.declared.subprogram.Sub.{Sub}
 use Rattle.spx_core.specs.Commands.{commands}
 use Rattle.spx_core.specs.Obeyed.{first_rule_breach}
 use Rattle.spx_core.specs.Regions.{denoted}
-use Rattle.spx_core.specs.Resolved.{around_body, at_start, declaring_all, formal_names, local_names, resolved, resolved_sub, standard_types, unit_name}
+use Rattle.spx_core.specs.DeclaredNames.{declaring_all}
+use Rattle.spx_core.specs.Resolved.{around_body, at_start, formal_names, local_names, resolved, resolved_sub, standard_types, unit_name}
 use Rattle.spx_core.specs.Statements.{first_name_breach}
 use Rattle.spx_meaning.specs.Frames.{around}
 use Rattle.spx_meaning.specs.Runs.{Outcome, run}

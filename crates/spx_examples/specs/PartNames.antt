@@ -18,7 +18,9 @@ use Rattle.spx_core.specs.declared.part.Selection.{Selection}
 use Rattle.spx_core.specs.declared.part.Target.{Target}
 use Rattle.spx_core.specs.declared.program.TypeForm.TheVariants.{Array, Record}
 use Rattle.spx_core.specs.declared.program.TypeRow.{TypeRow}
-use Rattle.spx_core.specs.Resolved.{composite_type, faulty_name, faulty_value, in_annotation, in_code, in_declaration, standard_types, target_of, value_of_path}
+use Rattle.spx_core.specs.ResolvedExpressions.{faulty_name, faulty_value, in_annotation, in_code, in_declaration, target_of, value_of_path}
+use Rattle.spx_core.specs.ResolvedDeclarations.{composite_type}
+use Rattle.spx_core.specs.Resolved.{standard_types}
 use Rattle.spx_examples.specs.Declarations.{row}
 use Rattle.spx_examples.specs.Increment.{place, word}
 use Rattle.spx_examples.specs.Names.{path_of}

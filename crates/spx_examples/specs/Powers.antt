@@ -25,7 +25,9 @@ use Rattle.spx_core.specs.declared.rule.ExprType.{ExprType}
 use Rattle.spx_core.specs.declared.statement.CoreStmt.{CoreStmt}
 use Rattle.spx_core.specs.Contexts.{in_context}
 use Rattle.spx_core.specs.Regions.{Regions}
-use Rattle.spx_core.specs.Resolved.{Scene, in_code, resolved_stmt, standard_types}
+use Rattle.spx_core.specs.ResolvedExpressions.{Scene, in_code}
+use Rattle.spx_core.specs.ResolvedStatements.{resolved_stmt}
+use Rattle.spx_core.specs.Resolved.{standard_types}
 use Rattle.spx_core.specs.Shapes.{applied_of, implicit_of, in_range_of, in_type_of, infix_of, parenthesized_of, prefix_of}
 use Rattle.spx_term.specs.declared.term.Term.{Term}
 use Rattle.spx_term.specs.declared.term.Term.TheVariants as term

@@ -18,7 +18,7 @@ ghost use Rattle.spx_core.specs.declared.statement.CoreScheme.TheVariants as sch
 ghost use Rattle.spx_core.specs.declared.statement.CoreStmt.TheVariants as stmt;
 ghost use Rattle.spx_core.specs.Contexts.{in_context};
 ghost use Rattle.spx_core.specs.Judged.{judged, typing};
-ghost use Rattle.spx_core.specs.Resolved.{resolved_count};
+ghost use Rattle.spx_core.specs.ResolvedStatements.{resolved_count};
 ghost use Rattle.spx_term.specs.declared.condition.CondKind.TheVariants as kind;
 ghost use Rattle.spx_term.specs.declared.term.Term.{Term};
 ghost use Rattle.spx_term.specs.declared.term.Term.TheVariants as term;

@@ -5,7 +5,8 @@ use Rattle.spx_core.specs.declared.dependency.CoreDerivesItem.{CoreDerivesItem}
 use Rattle.spx_core.specs.declared.program.TypeRow.{TypeRow}
 use Rattle.spx_core.specs.declared.statement.CoreStmt.{CoreStmt}
 use Rattle.spx_core.specs.Regions.{Region, Regions}
-use Rattle.spx_core.specs.Resolved.{Scene, in_annotation, resolved_stmts}
+use Rattle.spx_core.specs.ResolvedExpressions.{Scene, in_annotation}
+use Rattle.spx_core.specs.ResolvedStatements.{resolved_stmts}
 
 pub in_scene : (scene : Scene) (types : List TypeRow) (items : List CoreDerivesItem) (outer : Regions) (given stmts : List Stmt) (region : Region) (vars after : ℕ) (made : List CoreStmt)
     → scene ≡ in_annotation types items → given ≡ stmts → (made, after) ≡ resolved_stmts scene.types scene.items outer given region vars

@@ -6,7 +6,9 @@ use Rattle.spx_core.specs.declared.statement.CoreDecl.{CoreDecl}
 use Rattle.spx_core.specs.declared.program.TypeRow.{TypeRow}
 use Rattle.spx_core.specs.declared.program.Var.{Var}
 use Rattle.spx_core.specs.Regions.{Region, Regions}
-use Rattle.spx_core.specs.Resolved.{Before, counted, declared_by, declared_by_decls, declaring_all, resolved_decl, resolved_decls, rows_by, rows_by_decls, var_of, variables_by, variables_by_decls}
+use Rattle.spx_core.specs.DeclaredNames.{declaring_all}
+use Rattle.spx_core.specs.ResolvedDeclarations.{Before, counted, declared_by, declared_by_decls, resolved_decl, resolved_decls, rows_by, rows_by_decls, variables_by, variables_by_decls}
+use Rattle.spx_core.specs.Resolved.{var_of}
 use Rattle.spx_naming.specs.declared.tables.Tables.{Tables}
 use Rattle.spx_naming.specs.Before.{before_in}
 use Rattle.spx_naming.proofs.Declared.{declaring_append, length_after, rest_at}

@@ -5,7 +5,8 @@ use Rattle.std.specs.List.{range_with_len}
 use Rattle.spx_core.specs.declared.name.Defining.{Defining}
 use Rattle.spx_core.specs.declared.program.Var.{Var}
 use Rattle.spx_core.specs.Regions.{Region}
-use Rattle.spx_core.specs.Resolved.{declaring, declaring_all, positions, var_of}
+use Rattle.spx_core.specs.DeclaredNames.{declaring, declaring_all}
+use Rattle.spx_core.specs.Resolved.{positions, var_of}
 use Rattle.spx_naming.specs.Ids.{id_at, ids_from}
 
 pub declaring_append : (region : Region) (ds es : List Defining) → declaring_all region (ds ++ es) ≡ declaring_all (declaring_all region ds) es

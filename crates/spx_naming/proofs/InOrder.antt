@@ -5,7 +5,8 @@ use Rattle.std.specs.List.{flat_map}
 use Rattle.spx_core.specs.declared.name.Defining.{Defining}
 use Rattle.spx_core.specs.declared.program.Var.{Var}
 use Rattle.spx_core.specs.Regions.{Region}
-use Rattle.spx_core.specs.Resolved.{Part, in_order, var_of}
+use Rattle.spx_core.specs.ResolvedStatements.{Part, in_order}
+use Rattle.spx_core.specs.Resolved.{var_of}
 use Rattle.spx_naming.proofs.Declared.{rest_at}
 
 -- A part is resolved to this, from a region and variables on. What it declares is a variable then, and no more in the region.

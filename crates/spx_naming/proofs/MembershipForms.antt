@@ -8,7 +8,7 @@ use Rattle.spx_tree.specs.declared.expression.Path.{Path}
 use Rattle.spx_core.specs.declared.expression.CoreExpr.{CoreExpr}
 use Rattle.spx_core.specs.declared.expression.CoreExpr.TheVariants as expr
 use Rattle.spx_core.specs.Regions.{Regions}
-use Rattle.spx_core.specs.Resolved.{Scene, expr_step, resolved_in, resolved_name}
+use Rattle.spx_core.specs.ResolvedExpressions.{Scene, expr_step, resolved_in, resolved_name}
 use Rattle.spx_core.proofs.Callers.WrittenParts.{parts_written}
 
 module _ (scene : Scene) (regions : Regions) where

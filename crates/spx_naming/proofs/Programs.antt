@@ -9,7 +9,9 @@ use Rattle.spx_core.specs.declared.subprogram.Sub.{Sub}
 use Rattle.spx_core.specs.declared.program.TypeRow.{TypeRow}
 use Rattle.spx_core.specs.declared.program.Var.{Var}
 use Rattle.spx_core.specs.Regions.{Region}
-use Rattle.spx_core.specs.Resolved.{Before, counted_sub, declaring, own_types, own_vars, resolved_sub, resolved_subs, unit_name}
+use Rattle.spx_core.specs.DeclaredNames.{declaring}
+use Rattle.spx_core.specs.ResolvedDeclarations.{Before}
+use Rattle.spx_core.specs.Resolved.{counted_sub, own_types, own_vars, resolved_sub, resolved_subs, unit_name}
 use Rattle.spx_naming.specs.declared.tables.Tables.{Tables}
 use Rattle.spx_naming.specs.Before.{before_in}
 use Rattle.spx_naming.specs.Units.{subprogram_of}

@@ -24,7 +24,10 @@ use Rattle.spx_core.specs.declared.statement.CoreScheme.TheVariants as core_sche
 use Rattle.spx_core.specs.declared.statement.CoreStmt.{CoreStmt}
 use Rattle.spx_core.specs.declared.statement.CoreStmt.TheVariants as stmt
 use Rattle.spx_core.specs.Regions.{Declaration, Region, Regions, declared_in, with_declaration}
-use Rattle.spx_core.specs.Resolved.{Part, alternative_step, arm_step, declared_by_scheme, declaring_all, in_code, in_order, loop_with, parameters_by, parameters_by_alternative, parameters_by_arm, parameters_by_stmts, resolved_alternative, resolved_arm, resolved_choice, resolved_condition, resolved_scheme, resolved_stmt, resolved_stmts, stmt_step, var_of}
+use Rattle.spx_core.specs.ResolvedExpressions.{in_code, resolved_condition}
+use Rattle.spx_core.specs.DeclaredNames.{declaring_all}
+use Rattle.spx_core.specs.ResolvedStatements.{Part, alternative_step, arm_step, declared_by_scheme, in_order, loop_with, parameters_by, parameters_by_alternative, parameters_by_arm, parameters_by_stmts, resolved_alternative, resolved_arm, resolved_choice, resolved_scheme, resolved_stmt, resolved_stmts, stmt_step}
+use Rattle.spx_core.specs.Resolved.{var_of}
 use Rattle.spx_core.proofs.Callers.LoopParameters.{parameters-If, parameters-If-else, parameters-Case, parameters-Loop, parameters-arm, parameters-alternative}
 use Rattle.spx_naming.proofs.Declared.{length_after}
 use Rattle.spx_naming.proofs.InOrder.{Made}

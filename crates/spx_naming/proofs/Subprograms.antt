@@ -16,7 +16,11 @@ use Rattle.spx_core.specs.declared.program.TypeRow.{TypeRow}
 use Rattle.spx_core.specs.declared.program.Var.{Var}
 use Rattle.spx_core.specs.Regions.{Region}
 use Rattle.spx_core.specs.Dependency.{items_of}
-use Rattle.spx_core.specs.Resolved.{Before, after_formals, around_annotations, around_body, declared_before, declared_by_decls, declared_by_params, declaring_all, derives_of, in_annotation, in_code, own_region, own_types, own_vars, parameters_by_stmts, params_of, positions, resolved_decls, resolved_derives, resolved_formal_part, resolved_predicate, resolved_stmts, resolved_sub, rows_by_decls, sub_of, var_of, variables_by_decls, with_formals}
+use Rattle.spx_core.specs.ResolvedExpressions.{in_annotation, in_code}
+use Rattle.spx_core.specs.DeclaredNames.{declaring_all}
+use Rattle.spx_core.specs.ResolvedStatements.{parameters_by_stmts, resolved_derives, resolved_predicate, resolved_stmts}
+use Rattle.spx_core.specs.ResolvedDeclarations.{Before, declared_by_decls, declared_by_params, resolved_decls, rows_by_decls, variables_by_decls}
+use Rattle.spx_core.specs.Resolved.{after_formals, around_annotations, around_body, declared_before, derives_of, own_region, own_types, own_vars, params_of, positions, resolved_formal_part, resolved_sub, sub_of, var_of, with_formals}
 use Rattle.spx_naming.specs.Ids.{ids_from}
 use Rattle.spx_naming.proofs.Declared.{declaring_append, length_after, positions_are}
 

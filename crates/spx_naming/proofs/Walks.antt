@@ -18,7 +18,7 @@ use Rattle.spx_core.specs.declared.program.TypeForm.{TypeForm}
 use Rattle.spx_core.specs.declared.program.TypeForm.TheVariants.{Array, Record}
 use Rattle.spx_core.specs.declared.program.TypeRow.{TypeRow}
 use Rattle.spx_core.specs.NamedParts.{Along, OneStep, after_step, along, ends_at, followed, form_in, going, part_step}
-use Rattle.spx_core.specs.Resolved.{Scene, entry_of, fault_along, fault_of_type, or_faulty, part_value, step_in_context, target_at, target_of, value_of_other, value_of_path, value_of_variable}
+use Rattle.spx_core.specs.ResolvedExpressions.{Scene, entry_of, fault_along, fault_of_type, or_faulty, part_value, step_in_context, target_at, target_of, value_of_other, value_of_path, value_of_variable}
 use Rattle.spx_naming.specs.declared.steps.Part.{Part}
 use Rattle.spx_naming.specs.declared.steps.Part.TheVariants.{Element, Field}
 use Rattle.spx_naming.specs.Found.{answer, begins_with_entry, found_along, leading, object_value, other_value, shown, target_with, way_along}

@@ -13,7 +13,7 @@ use Rattle.spx_core.specs.declared.name.NameFault.{NameFault}
 use Rattle.spx_core.specs.declared.part.PartStep.{PartStep}
 use Rattle.spx_core.specs.declared.part.Target.{Target}
 use Rattle.spx_core.specs.NamedParts.{Along}
-use Rattle.spx_core.specs.Resolved.{Scene, attributed, entry_of, fault_along, faulty_name, faulty_value, function_value, part_value, step_in_context}
+use Rattle.spx_core.specs.ResolvedExpressions.{Scene, attributed, entry_of, fault_along, faulty_name, faulty_value, function_value, part_value, step_in_context}
 use Rattle.spx_core.specs.declared.program.TypeRow.{TypeRow}
 use Rattle.spx_naming.specs.declared.targets.Way.{Way}
 use Rattle.spx_naming.specs.declared.targets.Way.TheVariants as way

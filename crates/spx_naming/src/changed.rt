@@ -1,7 +1,7 @@
 // The variables of which an annotation may name the value on entry (Barnes, `~`).
 ghost use Rattle.std.specs.Prelude.{◌≡◌, IfOk};
 ghost use Rattle.spx_core.specs.Dependency.{items_of};
-ghost use Rattle.spx_core.specs.Resolved.{is_changed_by};
+ghost use Rattle.spx_core.specs.ResolvedExpressions.{is_changed_by};
 
 use spx_core::{CoreDerives, CoreDerivesItem, CoreName, VarSet, variable_of};
 use std::alloc::{AllocError, Global};

@@ -1,6 +1,7 @@
 // The choices of a `case` (Ada 95 RM 5.4).
 ghost use Rattle.std.specs.Prelude.{◌≡◌, IfOk, map, option_map};
-ghost use Rattle.spx_core.specs.Resolved.{resolved_choice, resolved_static};
+ghost use Rattle.spx_core.specs.ResolvedExpressions.{resolved_static};
+ghost use Rattle.spx_core.specs.ResolvedStatements.{resolved_choice};
 ghost use Rattle.spx_scope.specs.Seen.{seen};
 
 use crate::expression::resolve_static;

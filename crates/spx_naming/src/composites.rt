@@ -2,7 +2,9 @@
 ghost use Rattle.std.specs.Prelude.{◌≡◌, ◌∷◌, ◌++◌, [], IfOk, length};
 ghost use Rattle.spx_core.specs.declared.entity.Entity.TheVariants as entity;
 ghost use Rattle.spx_core.specs.declared.statement.CoreDecl.TheVariants as decl;
-ghost use Rattle.spx_core.specs.Resolved.{around_names, array_decl, composite_type, declared_by, declared_by_definition, declaring_all, defining, record_decl, resolved_field, resolved_fields, resolved_reference, rows_by};
+ghost use Rattle.spx_core.specs.ResolvedExpressions.{resolved_reference};
+ghost use Rattle.spx_core.specs.DeclaredNames.{around_names, declaring_all, defining};
+ghost use Rattle.spx_core.specs.ResolvedDeclarations.{array_decl, composite_type, declared_by, declared_by_definition, record_decl, resolved_field, resolved_fields, rows_by};
 ghost use Rattle.spx_scope.specs.Seen.{seen};
 
 use crate::meaning::composite_type;

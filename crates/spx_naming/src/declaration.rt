@@ -1,7 +1,10 @@
 // Formals and declarations: each sees those before it, and not itself.
 ghost use Rattle.std.specs.Prelude.{◌≡◌, ◌++◌, IfOk, length, map, option_map};
 ghost use Rattle.spx_core.specs.declared.entity.Meaning.TheVariants as meaning;
-ghost use Rattle.spx_core.specs.Resolved.{around_names, declared_by, declared_by_decls, declared_by_params, declaring_all, defining_all, in_declaration, resolved_decl, resolved_decls, resolved_param, resolved_params, resolved_reference, resolved_static, resolved_type, rows_by, rows_by_decls, var_of, variables_by, variables_by_decls, variables_of};
+ghost use Rattle.spx_core.specs.ResolvedExpressions.{in_declaration, resolved_reference, resolved_static};
+ghost use Rattle.spx_core.specs.DeclaredNames.{around_names, declaring_all, defining_all};
+ghost use Rattle.spx_core.specs.ResolvedDeclarations.{declared_by, declared_by_decls, declared_by_params, resolved_decl, resolved_decls, resolved_param, resolved_params, resolved_type, rows_by, rows_by_decls, variables_by, variables_by_decls, variables_of};
+ghost use Rattle.spx_core.specs.Resolved.{var_of};
 ghost use Rattle.spx_scope.specs.Seen.{seen};
 ghost use Rattle.spx_naming.specs.Before.{before_in};
 

@@ -1,7 +1,7 @@
 // Names and expressions.
 ghost use Rattle.std.specs.Prelude.{◌≡◌, ◌∷◌, IfOk, map};
 ghost use Rattle.spx_core.specs.declared.expression.CoreExpr.TheVariants as expr;
-ghost use Rattle.spx_core.specs.Resolved.{in_code, resolved_condition, resolved_expr, resolved_in, resolved_name, resolved_reference, resolved_static, resolved_target, resolved_value};
+ghost use Rattle.spx_core.specs.ResolvedExpressions.{in_code, resolved_condition, resolved_expr, resolved_in, resolved_name, resolved_reference, resolved_static, resolved_target, resolved_value};
 ghost use Rattle.spx_core.specs.WrittenExpressions.{erased_expr};
 ghost use Rattle.spx_scope.specs.Seen.{seen};
 

@@ -1,6 +1,6 @@
 // Names that are declared (Ada 95 RM 3.1, 8.3).
 ghost use Rattle.std.specs.Prelude.{◌≡◌, ◌<◌, ◌^◌, IfOk};
-ghost use Rattle.spx_core.specs.Resolved.{declaring, declaring_all, defining, defining_all};
+ghost use Rattle.spx_core.specs.DeclaredNames.{declaring, declaring_all, defining, defining_all};
 
 use spx_core::{Defining, Entity, Meaning};
 use spx_scope::{Region, Scope};

@@ -1,7 +1,8 @@
 // Parts of a declaration: in each, the names that it declares are hidden (Ada 95 RM 8.3).
 ghost use Rattle.std.specs.Prelude.{◌≡◌, IfOk, option_map};
 ghost use Rattle.spx_core.specs.declared.rule.ExprType.TheVariants.{Universal};
-ghost use Rattle.spx_core.specs.Resolved.{around_names, in_declaration, resolved_expr, resolved_range, resolved_reference, resolved_static};
+ghost use Rattle.spx_core.specs.ResolvedExpressions.{in_declaration, resolved_expr, resolved_range, resolved_reference, resolved_static};
+ghost use Rattle.spx_core.specs.DeclaredNames.{around_names};
 ghost use Rattle.spx_scope.specs.Seen.{seen};
 
 use crate::expression::{resolve_expr, resolve_reference};

@@ -1,6 +1,6 @@
 // What an expression stands in.
 ghost use Rattle.std.specs.Prelude.{◌≡◌};
-ghost use Rattle.spx_core.specs.Resolved as resolved;
+ghost use Rattle.spx_core.specs.ResolvedExpressions as resolved;
 
 use crate::changed::Changed;
 use spx_core::{CoreName, TypeRow};
@@ -21,7 +21,7 @@ impl<'a> Model for Scene<'a> {
     ghost use Rattle.std.specs.Coded.{codes};
     ghost use Rattle.std.specs.Option.{option_copied};
     ghost use Rattle.spx_tree.specs.contracts.expression.Expr as written;
-    ghost use Rattle.spx_core.specs.Resolved as resolved;
+    ghost use Rattle.spx_core.specs.ResolvedExpressions as resolved;
     ghost use Rattle.spx_naming.specs.Ends.{items_if_any};
 
     ghost Value = { resolved.Scene };

@@ -1,7 +1,10 @@
 // The schemes of loops, and the parameters that they declare (Ada 95 RM 5.5).
 ghost use Rattle.std.specs.Prelude.{◌≡◌, ◌∷◌, ◌++◌, [], IfOk, length, map};
 ghost use Rattle.spx_core.specs.declared.entity.VarKind.TheVariants.{LoopParameter};
-ghost use Rattle.spx_core.specs.Resolved.{declared_by_count, declared_by_scheme, declaring, declaring_all, defining, in_code, object_of, resolved_count, resolved_scheme, var_of, variable_at};
+ghost use Rattle.spx_core.specs.ResolvedExpressions.{in_code};
+ghost use Rattle.spx_core.specs.DeclaredNames.{declaring, declaring_all, defining, object_of, variable_at};
+ghost use Rattle.spx_core.specs.ResolvedStatements.{declared_by_count, declared_by_scheme, resolved_count, resolved_scheme};
+ghost use Rattle.spx_core.specs.Resolved.{var_of};
 ghost use Rattle.spx_scope.specs.Seen.{seen};
 
 use crate::expression::resolve_inside;

@@ -2,7 +2,9 @@
 ghost use Rattle.std.specs.Prelude.{◌≡◌, ◌∷◌, ◌++◌, [], IfOk, length, map, option_map};
 ghost use Rattle.std.specs.List.{flat_map};
 ghost use Rattle.spx_core.specs.declared.statement.CoreStmt.TheVariants as stmt;
-ghost use Rattle.spx_core.specs.Resolved.{assignment_to, exported_names, in_annotation, in_code, in_order, parameters_by, parameters_by_alternative, parameters_by_arm, parameters_by_stmts, place_of_null, resolved_alternative, resolved_arm, resolved_choice, resolved_condition, resolved_derives, resolved_expr, resolved_item, resolved_predicate, resolved_reference, resolved_stmt, resolved_stmts, resolved_target, type_of_target, var_of};
+ghost use Rattle.spx_core.specs.ResolvedExpressions.{assignment_to, in_annotation, in_code, resolved_condition, resolved_expr, resolved_reference, resolved_target, type_of_target};
+ghost use Rattle.spx_core.specs.ResolvedStatements.{exported_names, in_order, parameters_by, parameters_by_alternative, parameters_by_arm, parameters_by_stmts, place_of_null, resolved_alternative, resolved_arm, resolved_choice, resolved_derives, resolved_item, resolved_predicate, resolved_stmt, resolved_stmts};
+ghost use Rattle.spx_core.specs.Resolved.{var_of};
 ghost use Rattle.spx_scope.specs.Seen.{seen};
 
 use crate::choices::resolve_listed;

@@ -5,7 +5,7 @@ ghost use Rattle.spx_core.specs.declared.program.TypeForm.TheVariants.{Array, Re
 ghost use Rattle.spx_tree.specs.declared.expression.NameStep.TheVariants as step;
 ghost use Rattle.spx_core.specs.declared.expression.CoreExpr.{CoreExpr};
 ghost use Rattle.spx_core.specs.NamedParts.{fault_at, field_named, followed, form_in, part_step};
-ghost use Rattle.spx_core.specs.Resolved.{step_in_context};
+ghost use Rattle.spx_core.specs.ResolvedExpressions.{step_in_context};
 ghost use Rattle.spx_naming.specs.Steps.{after, one_argument, step_of, type_of};
 
 use spx_context::in_context;

@@ -1,7 +1,8 @@
 // The tables of a program: its variables and its types.
 ghost use Rattle.std.specs.Prelude.{◌≡◌, ◌∷◌, ◌++◌, [], IfOk, OnOk, map};
 ghost use Rattle.spx_core.specs.declared.program.TypeForm.TheVariants.{Scalar};
-ghost use Rattle.spx_core.specs.Resolved.{row_with, standard_types, var_of};
+ghost use Rattle.spx_core.specs.ResolvedDeclarations.{row_with};
+ghost use Rattle.spx_core.specs.Resolved.{standard_types, var_of};
 
 use spx_core::{
     BOOLEAN, Defining, Entity, INTEGER, NATURAL, POSITIVE, Subtype, TypeForm, TypeRow, UNIVERSAL,

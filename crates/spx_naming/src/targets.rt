@@ -1,7 +1,7 @@
 // What an assignment names (Ada 95 RM 5.2).
 ghost use Rattle.std.specs.Prelude.{◌≡◌, [], ◌++◌, IfOk, drop, map};
 ghost use Rattle.spx_core.specs.NamedParts.{along, ends_at};
-ghost use Rattle.spx_core.specs.Resolved.{target_of};
+ghost use Rattle.spx_core.specs.ResolvedExpressions.{target_of};
 ghost use Rattle.spx_core.specs.WrittenExpressions.{erased_expr};
 ghost use Rattle.spx_naming.specs.Found.{leading, root_of, target_with, way_along};
 

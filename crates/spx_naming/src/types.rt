@@ -2,7 +2,9 @@
 ghost use Rattle.std.specs.Prelude.{◌≡◌, ◌∷◌, ◌++◌, [], IfOk, length, option_map};
 ghost use Rattle.spx_core.specs.declared.entity.Entity.TheVariants as entity;
 ghost use Rattle.spx_core.specs.declared.rule.ExprType.TheVariants.{Universal};
-ghost use Rattle.spx_core.specs.Resolved.{around_names, constants_of, declared_by, declaring, declaring_all, defining, enumeration_decl, in_declaration, integer_decl, resolved_range, resolved_reference, resolved_static, row_with, rows_by, subtype_decl};
+ghost use Rattle.spx_core.specs.ResolvedExpressions.{in_declaration, resolved_range, resolved_reference, resolved_static};
+ghost use Rattle.spx_core.specs.DeclaredNames.{around_names, declaring, declaring_all, defining};
+ghost use Rattle.spx_core.specs.ResolvedDeclarations.{constants_of, declared_by, enumeration_decl, integer_decl, row_with, rows_by, subtype_decl};
 ghost use Rattle.spx_scope.specs.Seen.{seen};
 
 use crate::meaning::{constant_of, enumeration_type, narrowed, range_type, static_value};

@@ -1,7 +1,11 @@
 // Subprograms and programs.
 ghost use Rattle.std.specs.Prelude.{◌≡◌, ◌∷◌, ◌++◌, ◌+◌, ◌-◌, [], IfOk, length, map, option_map};
 ghost use Rattle.std.specs.List.{flat_map, range_with_len};
-ghost use Rattle.spx_core.specs.Resolved.{around_body, declared_by_decls, declared_by_params, declaring, declaring_all, defining, in_annotation, in_code, own_types, own_vars, parameters_by_stmts, params_of, resolved, resolved_decls, resolved_derives, resolved_formal_part, resolved_predicate, resolved_stmts, resolved_sub, resolved_subs, rows_by_decls, sub_at, var_of, variables_by_decls};
+ghost use Rattle.spx_core.specs.ResolvedExpressions.{in_annotation, in_code};
+ghost use Rattle.spx_core.specs.DeclaredNames.{declaring, declaring_all, defining};
+ghost use Rattle.spx_core.specs.ResolvedStatements.{parameters_by_stmts, resolved_derives, resolved_predicate, resolved_stmts};
+ghost use Rattle.spx_core.specs.ResolvedDeclarations.{declared_by_decls, declared_by_params, resolved_decls, rows_by_decls, variables_by_decls};
+ghost use Rattle.spx_core.specs.Resolved.{around_body, own_types, own_vars, params_of, resolved, resolved_formal_part, resolved_sub, resolved_subs, sub_at, var_of};
 ghost use Rattle.spx_core.specs.Dependency.{items_of};
 ghost use Rattle.spx_scope.specs.Seen.{seen};
 ghost use Rattle.spx_naming.specs.Before.{before_in};

@@ -4,7 +4,7 @@ ghost use Rattle.std.specs.Option.{option_copied};
 ghost use Rattle.spx_core.specs.declared.entity.Entity.TheVariants as entity;
 ghost use Rattle.spx_core.specs.declared.expression.CoreExpr.TheVariants as expr;
 ghost use Rattle.spx_core.specs.NamedParts.{along, ends_at, form_in};
-ghost use Rattle.spx_core.specs.Resolved.{array_end, attributed, entry_of, fault_of_type, index_of, value_at, value_of_other, value_of_path, value_of_variable, with_index};
+ghost use Rattle.spx_core.specs.ResolvedExpressions.{array_end, attributed, entry_of, fault_of_type, index_of, value_at, value_of_other, value_of_path, value_of_variable, with_index};
 ghost use Rattle.spx_core.specs.WrittenExpressions.{erased_expr};
 ghost use Rattle.spx_naming.specs.Found.{answer, applied_value, begins_with_entry, found_along, object_value, opened, other_value, plain_value, root_of, shown};
 

@@ -21,7 +21,7 @@ use Rattle.spx_core.specs.declared.function.Shift.{Shift}
 use Rattle.spx_core.specs.declared.program.Program.{Program}
 use Rattle.spx_core.specs.Judged.{Judged, application}
 use Rattle.spx_core.specs.Places.{place_of}
-use Rattle.spx_core.specs.Resolved.{subtype_of}
+use Rattle.spx_core.specs.DeclaredNames.{subtype_of}
 use Rattle.spx_term.specs.declared.condition.CondKind.{CondKind}
 use Rattle.spx_term.specs.declared.term.Term.{Term}
 use Rattle.spx_term.specs.declared.term.Term.TheVariants.{Infix, Number, Prefix}

@@ -1,6 +1,6 @@
 // The subtypes that names denote.
 ghost use Rattle.std.specs.Prelude.{◌≡◌};
-ghost use Rattle.spx_core.specs.Resolved.{subtype_of};
+ghost use Rattle.spx_core.specs.DeclaredNames.{subtype_of};
 
 use spx_core::{Entity, Subtype, UNIVERSAL};
 

@@ -2,7 +2,8 @@
 ghost use Rattle.std.specs.Prelude.{◌≡◌, ◌++◌, IfOk, OnOk, map};
 ghost use Rattle.std.specs.List.{flat_map};
 ghost use Rattle.spx_core.specs.declared.program.TypeForm.TheVariants as form;
-ghost use Rattle.spx_core.specs.Resolved.{field_with, fields_by, form_of, referred_subtype, row_with, subtype_of};
+ghost use Rattle.spx_core.specs.DeclaredNames.{subtype_of};
+ghost use Rattle.spx_core.specs.ResolvedDeclarations.{field_with, fields_by, form_of, referred_subtype, row_with};
 
 use spx_core::{
     CoreFieldDecl, CoreTypeDef, Defining, Entity, Field, Reference, Subtype, TypeForm, TypeRow,

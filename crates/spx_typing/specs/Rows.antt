@@ -7,7 +7,7 @@ use Rattle.spx_core.specs.declared.program.TypeRow.{TypeRow}
 use Rattle.spx_core.specs.declared.rule.RuleName.TheVariants.{N3}
 use Rattle.spx_core.specs.Judged.{Judged, ◌>>=◌}
 use Rattle.spx_core.specs.Places.{place_of}
-use Rattle.spx_core.specs.Resolved.{form_of, row_with}
+use Rattle.spx_core.specs.ResolvedDeclarations.{form_of, row_with}
 use Rattle.spx_core.specs.Statements.{judged_decl}
 use Rattle.spx_typing.specs.declared.row.TypeFault.{TypeFault}
 use Rattle.spx_typing.specs.declared.row.TypeFault.TheVariants.{Breach, Memory}

@@ -2,7 +2,7 @@
 ghost use Rattle.std.specs.Prelude.{◌≡◌, Some, IfOk};
 ghost use Rattle.spx_typing.specs.declared.row.TypeFault.TheVariants as reason;
 ghost use Rattle.spx_typing.specs.Rows.{Gives, row_declared};
-ghost use Rattle.spx_core.specs.Resolved.{form_of, row_with};
+ghost use Rattle.spx_core.specs.ResolvedDeclarations.{form_of, row_with};
 
 use crate::declaration::judge_decl;
 use spx_core::{Breach, CoreDecl, CoreTypeDef, Defining, Program, RuleName, TypeForm, TypeRow};

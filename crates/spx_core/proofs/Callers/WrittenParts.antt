@@ -2,7 +2,7 @@
 use Rattle.std.proofs.Common.{◌≡◌, List, map}
 use Rattle.spx_tree.specs.declared.expression.Expr.{Expr}
 use Rattle.spx_core.specs.Regions.{Regions}
-use Rattle.spx_core.specs.Resolved.{Scene, resolved_in}
+use Rattle.spx_core.specs.ResolvedExpressions.{Scene, resolved_in}
 use Rattle.spx_core.specs.WrittenExpressions.{erased_expr}
 use Rattle.spx_core.proofs.Erasure.{kept_all}
 

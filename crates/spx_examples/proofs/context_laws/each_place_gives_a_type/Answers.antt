@@ -9,7 +9,7 @@ use Rattle.spx_core.specs.declared.expression.CoreExpr.TheBlock.{hidden-the_row-
 use Rattle.spx_core.specs.declared.rule.ExprType.TheVariants.{Of, Universal}
 use Rattle.spx_core.specs.declared.statement.CoreScheme.TheVariants as scheme
 use Rattle.spx_core.specs.declared.statement.CoreStmt.TheVariants as stmt
-use Rattle.spx_core.specs.Resolved.{around_names}
+use Rattle.spx_core.specs.DeclaredNames.{around_names}
 use Rattle.spx_examples.specs.Branches.{arm}
 use Rattle.spx_examples.specs.Declarations.{number_in}
 use Rattle.spx_examples.specs.Increment.{place, word}

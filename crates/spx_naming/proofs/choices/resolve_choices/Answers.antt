@@ -1,6 +1,6 @@
 use Rattle.std.proofs.Common.{◌++◌, ◌∷◌, [], sym, ap, ap₂, ◌∙◌}
 use Rattle.std.proofs.lemmas.List.{map_more}
-use Rattle.spx_core.specs.Resolved.{resolved_choice}
+use Rattle.spx_core.specs.ResolvedStatements.{resolved_choice}
 use Rattle.spx_scope.specs.Seen.{seen}
 use Rattle.spx_naming.proofs.choices.resolve_choices.Goals as goal
 

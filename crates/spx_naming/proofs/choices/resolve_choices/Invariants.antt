@@ -1,5 +1,5 @@
 use Rattle.std.proofs.Common.{◌≡◌, map, take}
-use Rattle.spx_core.specs.Resolved.{resolved_choice}
+use Rattle.spx_core.specs.ResolvedStatements.{resolved_choice}
 use Rattle.spx_scope.specs.Seen.{seen}
 use Rattle.spx_naming.proofs.choices.resolve_choices.Given as goal
 

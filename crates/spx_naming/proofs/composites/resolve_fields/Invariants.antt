@@ -1,5 +1,5 @@
 use Rattle.std.proofs.Common.{◌≡◌, ◌++◌, [], drop}
-use Rattle.spx_core.specs.Resolved.{resolved_fields}
+use Rattle.spx_core.specs.ResolvedDeclarations.{resolved_fields}
 use Rattle.spx_scope.specs.Seen.{seen}
 use Rattle.spx_naming.proofs.composites.resolve_fields.Given as goal
 

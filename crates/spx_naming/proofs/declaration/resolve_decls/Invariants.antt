@@ -1,5 +1,7 @@
 use Rattle.std.proofs.Common.{◌≡◌, ◌++◌, drop, map}
-use Rattle.spx_core.specs.Resolved.{declared_by_decls, declaring_all, resolved_decls, rows_by_decls, var_of, variables_by_decls}
+use Rattle.spx_core.specs.DeclaredNames.{declaring_all}
+use Rattle.spx_core.specs.ResolvedDeclarations.{declared_by_decls, resolved_decls, rows_by_decls, variables_by_decls}
+use Rattle.spx_core.specs.Resolved.{var_of}
 use Rattle.spx_scope.specs.Seen.{seen}
 use Rattle.spx_naming.specs.Before.{before_in}
 use Rattle.spx_naming.proofs.declaration.resolve_decls.Given as goal

@@ -1,5 +1,7 @@
 use Rattle.std.proofs.Common.{◌≡◌, ◌++◌, drop, length, map}
-use Rattle.spx_core.specs.Resolved.{declared_by_params, declaring_all, resolved_params, var_of}
+use Rattle.spx_core.specs.DeclaredNames.{declaring_all}
+use Rattle.spx_core.specs.ResolvedDeclarations.{declared_by_params, resolved_params}
+use Rattle.spx_core.specs.Resolved.{var_of}
 use Rattle.spx_scope.specs.Seen.{seen}
 use Rattle.spx_naming.proofs.declaration.resolve_params.Given as goal
 

@@ -1,5 +1,5 @@
 use Rattle.std.proofs.Common.{◌≡◌, IfOk, ◌∷◌, subst}
-use Rattle.spx_core.specs.Resolved.{resolved_condition}
+use Rattle.spx_core.specs.ResolvedExpressions.{resolved_condition}
 use Rattle.spx_scope.specs.Seen.{seen}
 use Rattle.spx_naming.proofs.expression.resolve_inside.Goals as goal
 

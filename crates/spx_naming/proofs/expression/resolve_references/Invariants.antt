@@ -1,5 +1,5 @@
 use Rattle.std.proofs.Common.{◌≡◌, map, take}
-use Rattle.spx_core.specs.Resolved.{resolved_reference}
+use Rattle.spx_core.specs.ResolvedExpressions.{resolved_reference}
 use Rattle.spx_scope.specs.Seen.{seen}
 use Rattle.spx_naming.proofs.expression.resolve_references.Given as goal
 

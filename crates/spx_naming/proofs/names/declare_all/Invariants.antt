@@ -1,5 +1,5 @@
 use Rattle.std.proofs.Common.{◌≡◌, ◌+◌, ◌++◌, drop}
-use Rattle.spx_core.specs.Resolved.{declaring_all, defining_all}
+use Rattle.spx_core.specs.DeclaredNames.{declaring_all, defining_all}
 use Rattle.spx_naming.proofs.names.declare_all.Given as goal
 
 abbrev pub invariant-loop-name : goal.invariant-loop-name

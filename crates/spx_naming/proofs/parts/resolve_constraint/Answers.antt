@@ -1,6 +1,7 @@
 use Rattle.std.proofs.Common.{Some, option_map, ap, sym, ◌∙◌}
 use Rattle.spx_core.specs.declared.statement.CoreRange.{CoreRange}
-use Rattle.spx_core.specs.Resolved.{around_names, resolved_range}
+use Rattle.spx_core.specs.ResolvedExpressions.{resolved_range}
+use Rattle.spx_core.specs.DeclaredNames.{around_names}
 use Rattle.spx_scope.specs.Seen.{seen}
 use Rattle.spx_naming.proofs.parts.resolve_constraint.Goals as goal
 

@@ -1,6 +1,6 @@
 use Rattle.std.proofs.Common.{◌≡◌, IfOk, ◌∷◌, subst, ap, ◌∙◌}
 use Rattle.spx_core.specs.Regions.{Regions, hidden}
-use Rattle.spx_core.specs.Resolved.{resolved_expr}
+use Rattle.spx_core.specs.ResolvedExpressions.{resolved_expr}
 use Rattle.spx_naming.proofs.parts.resolve_value.Goals as goal
 
 pub returns : goal.returns

@@ -1,5 +1,6 @@
 use Rattle.std.proofs.Common.{◌∷◌, length, map, option_map, ap, ap₂, ◌∙◌}
-use Rattle.spx_core.specs.Resolved.{in_code, parameters_by, parameters_by_alternative, parameters_by_arm, resolved_alternative, resolved_arm, resolved_choice, resolved_condition, resolved_scheme, resolved_stmt}
+use Rattle.spx_core.specs.ResolvedExpressions.{in_code, resolved_condition}
+use Rattle.spx_core.specs.ResolvedStatements.{parameters_by, parameters_by_alternative, parameters_by_arm, resolved_alternative, resolved_arm, resolved_choice, resolved_scheme, resolved_stmt}
 use Rattle.spx_scope.specs.Seen.{seen}
 use Rattle.spx_naming.proofs.InOrder.{one_more}
 use Rattle.spx_naming.proofs.StatementForms.{made_alternative, made_arm, made-Case, made-If, made-If-else, made-Loop}

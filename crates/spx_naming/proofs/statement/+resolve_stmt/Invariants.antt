@@ -1,4 +1,4 @@
-use Rattle.spx_core.specs.Resolved.{parameters_by, parameters_by_alternative, parameters_by_arm, resolved_alternative, resolved_arm, resolved_stmt}
+use Rattle.spx_core.specs.ResolvedStatements.{parameters_by, parameters_by_alternative, parameters_by_arm, resolved_alternative, resolved_arm, resolved_stmt}
 use Rattle.spx_scope.specs.Seen.{seen}
 use Rattle.spx_naming.proofs.InOrder.{Goes}
 use Rattle.spx_naming.proofs.statement.+resolve_stmt.Given as goal

@@ -1,6 +1,6 @@
 use Rattle.std.proofs.Common.{ap, ap₂, ◌∙◌}
 use Rattle.spx_core.specs.declared.statement.CoreStmt.TheVariants as stmt
-use Rattle.spx_core.specs.Resolved.{in_code, resolved_expr, resolved_target, type_of_target}
+use Rattle.spx_core.specs.ResolvedExpressions.{in_code, resolved_expr, resolved_target, type_of_target}
 use Rattle.spx_scope.specs.Seen.{seen}
 use Rattle.spx_naming.proofs.statement.resolve_assignment.Goals as goal
 

@@ -1,6 +1,6 @@
 use Rattle.std.proofs.Common.{◌∷◌, Some, ap, ap₂, ◌∙◌}
 use Rattle.spx_core.specs.declared.statement.CoreStmt.TheVariants as stmt
-use Rattle.spx_core.specs.Resolved.{in_code, resolved_condition}
+use Rattle.spx_core.specs.ResolvedExpressions.{in_code, resolved_condition}
 use Rattle.spx_scope.specs.Seen.{seen}
 use Rattle.spx_naming.proofs.statement.resolve_exit.Goals as goal
 

@@ -1,5 +1,5 @@
 use Rattle.std.proofs.Common.{◌≡◌, map, take}
-use Rattle.spx_core.specs.Resolved.{resolved_item}
+use Rattle.spx_core.specs.ResolvedStatements.{resolved_item}
 use Rattle.spx_scope.specs.Seen.{seen}
 use Rattle.spx_naming.proofs.statement.resolve_items.Given as goal
 

@@ -1,7 +1,9 @@
 use Rattle.std.proofs.Common.{length, ap, ap₂, ◌∙◌}
 use Rattle.std.proofs.lemmas.Result.{IfOk-weaker}
 use Rattle.spx_core.specs.declared.rule.ExprType.TheVariants.{Universal}
-use Rattle.spx_core.specs.Resolved.{around_names, in_declaration, integer_decl, resolved_range}
+use Rattle.spx_core.specs.ResolvedExpressions.{in_declaration, resolved_range}
+use Rattle.spx_core.specs.DeclaredNames.{around_names}
+use Rattle.spx_core.specs.ResolvedDeclarations.{integer_decl}
 use Rattle.spx_scope.specs.Seen.{seen}
 use Rattle.spx_naming.proofs.types.resolve_integer.Goals as goal
 

@@ -1,5 +1,8 @@
 use Rattle.std.proofs.Common.{◌≡◌, ◌+◌, ◌-◌, length, map, sym, ap, ◌∙◌, arith, length-append}
-use Rattle.spx_core.specs.Resolved.{declared_by_decls, declaring_all, resolved_stmts, var_of, variables_by_decls}
+use Rattle.spx_core.specs.DeclaredNames.{declaring_all}
+use Rattle.spx_core.specs.ResolvedStatements.{resolved_stmts}
+use Rattle.spx_core.specs.ResolvedDeclarations.{declared_by_decls, variables_by_decls}
+use Rattle.spx_core.specs.Resolved.{var_of}
 use Rattle.spx_scope.specs.Seen.{seen}
 use Rattle.spx_naming.proofs.BodyForms.{after_declarations, counted}
 use Rattle.spx_naming.proofs.Results.{holds_of}

@@ -1,6 +1,10 @@
 use Rattle.std.proofs.Common.{◌≡◌, ◌∷◌, ◌+◌, length, option_map, ap, ap₂, ◌∙◌}
 use Rattle.spx_core.specs.Dependency.{items_of}
-use Rattle.spx_core.specs.Resolved.{around_body, declared_by_decls, declaring_all, in_annotation, resolved_predicate, resolved_stmts}
+use Rattle.spx_core.specs.ResolvedExpressions.{in_annotation}
+use Rattle.spx_core.specs.DeclaredNames.{declaring_all}
+use Rattle.spx_core.specs.ResolvedStatements.{resolved_predicate, resolved_stmts}
+use Rattle.spx_core.specs.ResolvedDeclarations.{declared_by_decls}
+use Rattle.spx_core.specs.Resolved.{around_body}
 use Rattle.spx_scope.specs.Seen.{seen}
 use Rattle.spx_naming.proofs.Results.{holds_of}
 use Rattle.spx_naming.proofs.unit.resolve_inner.Goals as goal

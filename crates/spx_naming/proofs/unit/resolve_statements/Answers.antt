@@ -1,6 +1,6 @@
 use Rattle.std.proofs.Common.{length, ap, ◌∙◌}
 use Rattle.std.proofs.lemmas.Result.{IfOk-weaker}
-use Rattle.spx_core.specs.Resolved.{in_annotation}
+use Rattle.spx_core.specs.ResolvedExpressions.{in_annotation}
 use Rattle.spx_scope.specs.Seen.{seen}
 use Rattle.spx_naming.proofs.BodyForms.{in_scene}
 use Rattle.spx_naming.proofs.unit.resolve_statements.Goals as goal

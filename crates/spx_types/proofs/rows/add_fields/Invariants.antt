@@ -1,5 +1,5 @@
 use Rattle.std.proofs.Common.{◌≡◌, ◌++◌, map, take}
-use Rattle.spx_core.specs.Resolved.{field_with}
+use Rattle.spx_core.specs.ResolvedDeclarations.{field_with}
 use Rattle.spx_types.proofs.rows.add_fields.Given as goal
 
 abbrev pub invariant-loop-name : goal.invariant-loop-name

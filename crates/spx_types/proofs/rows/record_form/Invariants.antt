@@ -1,6 +1,6 @@
 use Rattle.std.proofs.Common.{◌≡◌, take}
 use Rattle.std.specs.List.{flat_map}
-use Rattle.spx_core.specs.Resolved.{fields_by}
+use Rattle.spx_core.specs.ResolvedDeclarations.{fields_by}
 use Rattle.spx_types.proofs.rows.record_form.Given as goal
 
 abbrev pub invariant-loop-decl : goal.invariant-loop-decl
