@@ -10,7 +10,7 @@ use Rattle.spx_tree.specs.declared.expression.Layer.TheVariants as layer
 use Rattle.spx_tree.specs.Form.{Form}
 use Rattle.spx_tree.specs.Written.{program}
 use Rattle.spx_tree.specs.Goes.{Fault, TooDeep}
-use Rattle.spx_parse_body.specs.declared.expressions.Tall.{Tall}
+use Rattle.spx_parse_body.specs.declared.tall.Tall.{Tall}
 use Rattle.spx_cursor.specs.Reading.{Outcome, Reader, and_then, ◌>>=◌, ◌>>◌, pure, peek, sees, expect, expect_place, identifier, deeper, turn, loop}
 use Rattle.spx_cursor.specs.declared.operators.Chain.{Chain}
 use Rattle.spx_cursor.specs.Operators.{goes_on}

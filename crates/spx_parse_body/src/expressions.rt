@@ -1,9 +1,6 @@
-// From tokens to names and expressions (Ada 95 RM 4.1 and 4.4).
-ghost use Rattle.std.specs.Prelude.{◌≡◌, ◌<◌, ◌≤◌, ◌+◌, ◌-◌, ◌^◌, max, IfOk, List};
-ghost use Rattle.spx_tree.specs.Form.{Form, keeps, ItsPlace};
-ghost use Rattle.spx_tree.specs.Written.{program};
+// From tokens to names and expressions, layer by layer (Ada 95 RM 4.1 and 4.4).
+ghost use Rattle.std.specs.Prelude.{◌<◌, ◌≤◌, ◌+◌, ◌-◌, max, IfOk};
 ghost use Rattle.spx_tree.specs.declared.token.Kind.TheVariants as k;
-ghost use Rattle.spx_parse_body.specs.declared.expressions.Tall.{Tall as AsTall};
 ghost use Rattle.spx_parse_body.specs.Expressions as read;
 ghost use Rattle.spx_cursor.specs.Reading as reading;
 ghost use Rattle.spx_cursor.specs.Reading.{◌>>=◌ as ◌▷◌};
@@ -13,34 +10,16 @@ use crate::names::{
     Parts, StepKind, TallName, all_named, identifier_in, no_parts, one_part, plain_name, root_name,
     step_of, with_named, with_part, with_step,
 };
+use crate::tall::{Tall, join, literal, member_type, node};
 use spx_cursor::{
-    ANNOTATION, Chain, Cursor, PROGRAM, Relator, Stop, abs_or_not, connective_of, last_layer,
-    logical, operand_layer, operator_place, place_before, power_of, relator_of, right_layer,
-    second_word, sign_of, whole_operator,
+    Chain, Cursor, Relator, Stop, abs_or_not, connective_of, logical, operand_layer,
+    operator_place, place_before, power_of, relator_of, right_layer, second_word, sign_of,
+    whole_operator,
 };
 use spx_text::Place;
-use spx_tree::{
-    Arguments, Expr, Identifier, InfixOp, Kind, Layer, MemberOp, Name, NameStep, Predicate,
-    PrefixOp,
-};
-use sqlite_items::{Boxed, Items};
-use std::alloc::{AllocError, Global};
-
-/// An expression, and how many parentheses, operators and membership tests lie on the longest way down.
-#[derive(Drop)]
-pub struct Tall {
-    pub expr: Boxed<Expr>,
-    pub height: u32,
-}
-
-/// An expression of this height.
-fn node(alloc: Global, expr: Expr, height: u32) -> Result<Tall, Stop>
-    ensures gives { (fs : List Form) → Reads (reading.pure {A = AsTall} (record { expr = expr; height = height }) fs) result fs }
-    ensures low { IfOk result (λ t. t.height ≡ height) }
-{
-    let expr = Boxed::new(alloc, expr)?;
-    Ok(Tall { expr, height })
-}
+use spx_tree::{Arguments, Expr, Identifier, InfixOp, Kind, Layer, MemberOp, NameStep, PrefixOp};
+use sqlite_items::Items;
+use std::alloc::Global;
 
 /// What reads an expression of a layer.
 #[cycle(layers)]
@@ -69,7 +48,7 @@ pub fn at_layer(
 /// Reads an expression of a layer, one level down.
 #[cycle(layers)]
 #[tactic(auto, using(crate::proofs::Levels::below_is))]
-fn below(
+pub fn below(
     alloc: Global,
     cursor: &mut Cursor<'_>,
     levels: u32,
@@ -81,29 +60,6 @@ fn below(
     ensures low { IfOk result (λ t. t.height < levels) }
 {
     at_layer(alloc, cursor, levels - 1, marked, layer)
-}
-
-/// Reads an expression of program text, one level down.
-pub fn expr_below(
-    alloc: Global,
-    cursor: &mut Cursor<'_>,
-    levels: u32,
-    layer: Layer,
-) -> Result<Boxed<Expr>, Stop>
-    requires { 0 < levels }
-    ensures { Reads ((read.below program levels layer ▷ λ t. reading.pure t.expr) cursor.old) result cursor.new }
-{
-    Ok(below(alloc, cursor, levels, PROGRAM, layer)?.expr)
-}
-
-// literal = number
-#[tactic(auto, unfolding(crate::specs::Expressions::literal))]
-fn literal(alloc: Global, cursor: &mut Cursor<'_>, marked: bool) -> Result<Tall, Stop>
-    ensures gives { Reads (read.literal marked cursor.old) result cursor.new }
-    ensures low { IfOk result (λ t. t.height ≡ 0) }
-{
-    let (value, place) = cursor.number(marked)?;
-    node(alloc, Expr::Number(value, place), 0)
 }
 
 // "(", an expression of this layer, ")"; answers the place of "("
@@ -478,7 +434,7 @@ fn name_steps(
 // tall_name = identifier {step}
 #[cycle(layers)]
 #[tactic(auto, unfolding(crate::specs::Expressions::tall_name))]
-fn tall_name(
+pub fn tall_name(
     alloc: Global,
     cursor: &mut Cursor<'_>,
     levels: u32,
@@ -545,23 +501,6 @@ fn operated(
         Expr::Prefix(op, place, operand.expr),
         operand.height + 1,
     )
-}
-
-/// Two operands under an operator.
-fn join(
-    alloc: Global,
-    op: InfixOp,
-    place: Place,
-    left: Tall,
-    right: Tall,
-) -> Result<Tall, AllocError>
-    requires left_low { left.height < 2 ^ 32 - 1 }
-    requires right_low { right.height < 2 ^ 32 - 1 }
-    ensures { IfOk result (λ t. t ≡ read.joined op place left right) }
-{
-    let height = left.height.max(right.height) + 1;
-    let expr = Boxed::new(alloc, Expr::Infix(op, place, left.expr, right.expr))?;
-    Ok(Tall { expr, height })
 }
 
 // an operator and its right operand
@@ -670,32 +609,6 @@ fn sum(alloc: Global, cursor: &mut Cursor<'_>, levels: u32, marked: bool) -> Res
 {
     let first = signed(alloc, cursor, levels, marked)?;
     chained(alloc, cursor, levels, marked, Chain::Adding, first)
-}
-
-/// A membership test in the type of this name, where there is one.
-fn member_type(
-    alloc: Global,
-    cursor: &Cursor<'_>,
-    op: MemberOp,
-    place: Place,
-    tested: Tall,
-    high: u32,
-    type_name: Option<Name>,
-) -> Result<Tall, Stop>
-    requires tested_low { tested.height < 2 ^ 32 - 1 }
-    requires low { high < 2 ^ 32 - 1 }
-    ensures gives { Reads (read.type_by op place tested high type_name cursor.now) result cursor.now }
-    ensures taller { IfOk result (λ t. t.height ≡ max tested.height high + 1) }
-{
-    let Some(type_name) = type_name else {
-        return Err(cursor.expected());
-    };
-    let height = tested.height.max(high) + 1;
-    node(
-        alloc,
-        Expr::InType(op, place, tested.expr, type_name.path, type_name.parts),
-        height,
-    )
 }
 
 // member = name | sum ".." sum
@@ -871,61 +784,4 @@ fn connection(
         Some(op) => infix(alloc, cursor, levels, marked, op, left),
         None => Ok(left),
     }
-}
-
-/// Reads a name.
-#[tactic(auto, unfolding(crate::specs::Expressions::name))]
-pub fn name(alloc: Global, cursor: &mut Cursor<'_>, levels: u32, marked: bool) -> Result<Name, Stop>
-    ensures { Reads (read.name marked levels cursor.old) result cursor.new }
-{
-    let name = tall_name(alloc, cursor, levels, marked)?;
-    Ok(Name {
-        path: name.path,
-        parts: name.parts,
-    })
-}
-
-/// Reads an expression.
-#[tactic(auto, unfolding(crate::specs::Expressions::expression))]
-pub fn expression(
-    alloc: Global,
-    cursor: &mut Cursor<'_>,
-    levels: u32,
-    marked: bool,
-) -> Result<Expr, Stop>
-    ensures { Reads (read.expression marked levels cursor.old) result cursor.new }
-{
-    let tall = at_layer(alloc, cursor, levels, marked, Layer::Expression)?;
-    Ok(tall.expr.into_inner())
-}
-
-/// Reads an expression of program text, or a predicate of annotation text.
-#[tactic(auto, unfolding(crate::specs::Expressions::expression_at))]
-pub fn expression_at(
-    alloc: Global,
-    cursor: &mut Cursor<'_>,
-    levels: u32,
-    marked: bool,
-) -> Result<Expr, Stop>
-    ensures { Reads (read.expression_at marked levels cursor.old) result cursor.new }
-{
-    let tall = at_layer(alloc, cursor, levels, marked, last_layer(marked))?;
-    Ok(tall.expr.into_inner())
-}
-
-// predicate_after = word predicate ";", in annotation text
-#[tactic(auto, unfolding(crate::specs::Expressions::predicate_after, crate::specs::Expressions::predicate))]
-pub fn predicate_after(
-    alloc: Global,
-    cursor: &mut Cursor<'_>,
-    levels: u32,
-    word: Kind,
-) -> Result<Predicate, Stop>
-    requires { keeps word ≡ ItsPlace }
-    ensures { Reads (read.predicate_after word levels cursor.old) result cursor.new }
-{
-    let place = cursor.expect_place(ANNOTATION, word)?;
-    let condition = at_layer(alloc, cursor, levels, ANNOTATION, Layer::Predicate)?.expr;
-    cursor.expect(ANNOTATION, Kind::Semicolon)?;
-    Ok(Predicate { place, condition })
 }

@@ -6,7 +6,9 @@
 
 mod expressions;
 mod names;
+mod readers;
 mod statements;
+mod tall;
 
-pub use expressions::{expression, expression_at, name, predicate_after};
+pub use readers::{expression, expression_at, name, predicate_after};
 pub use statements::{constraint, stmts};

@@ -2,7 +2,7 @@
 ghost use Rattle.std.specs.Prelude.{◌≡◌, ◌<◌, ◌^◌, ◌-◌, IfOk};
 ghost use Rattle.spx_parse_body.specs.Expressions as read;
 
-use crate::expressions::Tall;
+use crate::tall::Tall;
 use spx_tree::{Arguments, Expr, Identifier, Kind, Name, NameStep, Path};
 use sqlite_items::Items;
 use std::alloc::{AllocError, Global};

@@ -8,7 +8,8 @@ ghost use Rattle.spx_cursor.specs.Reading as reading;
 ghost use Rattle.spx_parse_body.specs.Statements as read;
 ghost use Rattle.spx_cursor.specs.Answers.{Reads};
 
-use crate::expressions::{at_layer, expr_below, name, predicate_after};
+use crate::expressions::at_layer;
+use crate::readers::{expr_below, name, predicate_after};
 use spx_cursor::{ANNOTATION, Cursor, PROGRAM, Stop};
 use spx_text::Place;
 use spx_tree::{

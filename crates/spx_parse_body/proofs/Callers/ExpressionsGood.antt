@@ -27,7 +27,7 @@ use Rattle.spx_tree.specs.Goes.{Expected}
 use Rattle.spx_tree.specs.Written.{annotation, written_at, sign_kind, operator_kind, second_word, written_operator, written_member, written_path, written_name, written_expr}
 use Rattle.spx_tree.specs.Grammar.{layer_of, layer_before, layer_in, rank, right_layer, operand_layer, FitsLeft, LeftFits, layers_of, IsName, OfLayer, IsExpr, IsCondition, IsPredicate}
 use Rattle.spx_tree.proofs.WrittenLevels.{written_expr_level, spelled_expr}
-use Rattle.spx_parse_body.specs.declared.expressions.Tall.{Tall}
+use Rattle.spx_parse_body.specs.declared.tall.Tall.{Tall}
 use Rattle.spx_parse_body.specs.declared.names.Parts.{Parts}
 use Rattle.spx_parse_body.specs.declared.names.TallName.{TallName}
 use Rattle.spx_parse_body.specs.declared.names.StepKind.{StepKind}

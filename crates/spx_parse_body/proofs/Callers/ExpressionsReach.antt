@@ -20,7 +20,7 @@ use Rattle.spx_tree.specs.Form.{Form, Kept, Nothing, Where, Spelled, Valued, pla
 use Rattle.spx_tree.specs.declared.annotation.Predicate.{Predicate}
 use Rattle.spx_tree.specs.Written.{annotation, written_at, sign_kind, operator_kind, second_word, written_operator, written_member, written_steps, written_path, written_name, written_expr}
 use Rattle.spx_tree.specs.Grammar.{layer_of, layer_before, layer_in, rank, right_layer, operand_layer, IsOperation, HasOperator, FitsLeft, layers_of, IsName, OfLayer, IsExpr, IsCondition, IsPredicate}
-use Rattle.spx_parse_body.specs.declared.expressions.Tall.{Tall}
+use Rattle.spx_parse_body.specs.declared.tall.Tall.{Tall}
 use Rattle.spx_cursor.specs.declared.operators.Chain.{Chain}
 use Rattle.spx_cursor.specs.declared.operators.Chain.TheVariants as chain
 use Rattle.spx_cursor.specs.declared.operators.Relator.{Relator}

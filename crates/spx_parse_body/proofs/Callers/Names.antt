@@ -21,7 +21,7 @@ use Rattle.spx_tree.specs.Form.{Form, bare, named}
 use Rattle.spx_tree.specs.Written.{separated, takes, same_forms, named_parts, written_arguments, written_step, written_steps, written_path, written_expr}
 use Rattle.spx_tree.specs.Grammar.{Each, OneOrMore, IsIdentifiers, rank, layer_in, layers_of_step, layers_of, IsStep, AreOf}
 use Rattle.spx_tree.proofs.WrittenLevels.{written_expr_level, spelled_expr}
-use Rattle.spx_parse_body.specs.declared.expressions.Tall.{Tall}
+use Rattle.spx_parse_body.specs.declared.tall.Tall.{Tall}
 use Rattle.spx_parse_body.specs.declared.names.Parts.{Parts}
 use Rattle.spx_parse_body.specs.declared.names.TallName.{TallName}
 use Rattle.spx_parse_body.specs.Expressions.{plain_name, name_at, root_alone, alone_in, identifier_in, no_parts, with_part, with_named, one_part, all_named, root_name, with_step}

@@ -20,7 +20,7 @@ use Rattle.spx_tree.specs.Form.{Form, Kept, Nothing, Where, Spelled, bare, place
 use Rattle.spx_tree.specs.Form.{named as named_form}
 use Rattle.spx_tree.specs.Written.{joined, following, separated, takes, same_forms, named_parts, written_arguments, written_step, written_steps, written_path, written_expr}
 use Rattle.spx_tree.specs.Grammar.{Each, OneOrMore, rank, layer_in, layers_of_step, layers_of, IsStep, AreOf}
-use Rattle.spx_parse_body.specs.declared.expressions.Tall.{Tall}
+use Rattle.spx_parse_body.specs.declared.tall.Tall.{Tall}
 use Rattle.spx_parse_body.specs.declared.names.Parts.{Parts}
 use Rattle.spx_parse_body.specs.declared.names.TallName.{TallName}
 use Rattle.spx_parse_body.specs.declared.names.StepKind.{StepKind}
