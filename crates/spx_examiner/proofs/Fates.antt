@@ -85,7 +85,7 @@ not_both p q name same passed none = let e = ap first_limit same in absurd (cc)
 
 -- a limit of conditions or of a run is passed
 abbrev TooMuch : Request → List (List ℕ) → Type 0
-TooMuch r contents = ((¬ IsRun r) × (AreTooWide contents ⊎ AreTooLarge contents)) ⊎ ComesTo r contents result.TooLarge
+TooMuch r contents = ((¬ IsRun r) × (AreTooWide contents ⊎ AreTooLarge contents)) ⊎ ((name : LimitName) × ComesTo r contents (result.TooLarge name))
 
 -- the contents say nothing for what is asked
 record SayNothing (r : Request) (contents : List (List ℕ)) : Type 0 where
@@ -171,7 +171,7 @@ much_obeyed r source given alone (inl (plain, inl wide)) =
 much_obeyed r source given alone (inl (plain, inr large)) =
     let (p, spelled, obeys, narrow, flows, name, is) = subst (λ rest. AreTooLarge (source ∷ rest)) (alone plain) large in
     (p, spelled, obeys)
-much_obeyed r source given alone (inr comes) = result_obeyed r source given _ comes
+much_obeyed r source given alone (inr (name, comes)) = result_obeyed r source given _ comes
 
 nothing_obeyed : (r : Request) (source : List ℕ) (given : List (List ℕ)) → IsAlone r given → ¬ SpellsObeyed source → SayNothing r (source ∷ given)
 nothing_obeyed r source given alone none = record {
@@ -301,25 +301,25 @@ good_run r contents runs (inl (check, clean)) = absurd (check_is_plain r check r
 good_run r contents runs (inr (inl (conditions, good))) = absurd (conditions_are_plain r conditions runs)
 good_run r contents runs (inr (inr ends)) = ends
 
-much_run : (r : Request) (contents : List (List ℕ)) → IsRun r → TooMuch r contents → ComesTo r contents result.TooLarge
+much_run : (r : Request) (contents : List (List ℕ)) → IsRun r → TooMuch r contents → (name : LimitName) × ComesTo r contents (result.TooLarge name)
 much_run r contents runs (inl (plain, large)) = absurd (plain runs)
 much_run r contents runs (inr comes) = comes
 
 fate_of_result : Laws → (r : Request) (contents : List (List ℕ)) (j : Judgement) (came : RunResult) → IsRun r → AreShort contents → ComesTo r contents came → j ≡ Ran came → Fate r contents j
 fate_of_result laws r contents j (result.Refused found) runs short comes is =
-    refused (within r contents short (λ much. differs laws r contents (result.Refused found) result.TooLarge (λ e. cc) comes (much_run r contents runs much))) (
+    refused (within r contents short (λ much. let (name, passes) = much_run r contents runs much in differs laws r contents (result.Refused found) (result.TooLarge name) (λ e. cc) comes passes)) (
       (λ good. let ends = good_run r contents runs good in differs laws r contents (result.Refused found) (result.Ended ends.0) (λ e. cc) comes ends.1),
       (λ bad. differs laws r contents (result.Refused found) (result.Faulted bad.0) (λ e. cc) comes bad.1),
       (λ on. differs laws r contents (result.Refused found) (result.NotEnded on.0) (λ e. cc) comes on.1),
     )
     (ap status_of is)
-fate_of_result laws r contents j result.TooLarge runs short comes is = limited (inr (inr (inr comes))) (ap status_of is)
+fate_of_result laws r contents j (result.TooLarge name) runs short comes is = limited (inr (inr (inr (name, comes)))) (ap status_of is)
 fate_of_result laws r contents j (result.Faulted fault) runs short comes is =
-    faulted (within r contents short (λ much. differs laws r contents (result.Faulted fault) result.TooLarge (λ e. cc) comes (much_run r contents runs much))) (fault, comes) (ap status_of is)
+    faulted (within r contents short (λ much. let (name, passes) = much_run r contents runs much in differs laws r contents (result.Faulted fault) (result.TooLarge name) (λ e. cc) comes passes)) (fault, comes) (ap status_of is)
 fate_of_result laws r contents j (result.NotEnded n) runs short comes is =
-    late (within r contents short (λ much. differs laws r contents (result.NotEnded n) result.TooLarge (λ e. cc) comes (much_run r contents runs much))) (n, comes) (ap status_of is)
+    late (within r contents short (λ much. let (name, passes) = much_run r contents runs much in differs laws r contents (result.NotEnded n) (result.TooLarge name) (λ e. cc) comes passes)) (n, comes) (ap status_of is)
 fate_of_result laws r contents j (result.Ended all) runs short comes is =
-    accepted (within r contents short (λ much. differs laws r contents (result.Ended all) result.TooLarge (λ e. cc) comes (much_run r contents runs much))) (inr (inr (all, comes))) (ap status_of is)
+    accepted (within r contents short (λ much. let (name, passes) = much_run r contents runs much in differs laws r contents (result.Ended all) (result.TooLarge name) (λ e. cc) comes passes)) (inr (inr (all, comes))) (ap status_of is)
 
 -- ---- on units
 

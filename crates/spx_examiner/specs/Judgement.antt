@@ -14,7 +14,7 @@ use Rattle.spx_report.specs.Report.{refusal_text, report_text}
 -- how the program ends after a run
 abbrev pub status_of_run : RunResult → Status
 status_of_run (result.Refused found) = status.Refused
-status_of_run result.TooLarge = status.Limit
+status_of_run (result.TooLarge limit) = status.Limit
 status_of_run (result.Faulted bad) = status.RunFault
 status_of_run (result.NotEnded turns) = status.NotEnded
 status_of_run (result.Ended all) = status.Accepted

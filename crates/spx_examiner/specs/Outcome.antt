@@ -165,7 +165,7 @@ ComesTo _ _ result = ⊥
 
 -- what is asked for passes a limit: that of a file, of a text, of conditions, or of the numbers in a run
 abbrev pub PassesLimit : Request → List (List ℕ) → Type 0
-PassesLimit r contents = AreTooLong contents ⊎ (IsReadTooFar contents ⊎ (((¬ IsRun r) × (AreTooWide contents ⊎ AreTooLarge contents)) ⊎ ComesTo r contents result.TooLarge))
+PassesLimit r contents = AreTooLong contents ⊎ (IsReadTooFar contents ⊎ (((¬ IsRun r) × (AreTooWide contents ⊎ AreTooLarge contents)) ⊎ ((name : LimitName) × ComesTo r contents (result.TooLarge name))))
 
 -- the contents spell a program on which there is nothing to report
 abbrev pub AreClean : List (List ℕ) → Type 0

@@ -35,7 +35,7 @@ fn run_status(run: &RunResult) -> Status
 {
     match run {
         RunResult::Refused(_) => Status::Refused,
-        RunResult::TooLarge => Status::Limit,
+        RunResult::TooLarge(_) => Status::Limit,
         RunResult::Faulted(_) => Status::RunFault,
         RunResult::NotEnded(_) => Status::NotEnded,
         RunResult::Ended(_) => Status::Accepted,

@@ -10,19 +10,19 @@ ghost use Rattle.spx_meaning.specs.Stores.{look};
 ghost use Rattle.spx_interp.specs.declared.fault.Finish.TheVariants.{Ended};
 ghost use Rattle.spx_interp.specs.declared.fault.RunLimit.{RunLimit};
 ghost use Rattle.spx_interp.specs.declared.fault.RunFault.TheVariants.{TooLarge};
-ghost use Rattle.spx_interp.specs.Calls.{AreExports, IsCall};
+ghost use Rattle.spx_interp.specs.Calls.{AreExports, IsCall, in_bits};
 ghost use Rattle.spx_interp.specs.Results.{Done, body_ended, body_ran, call_ran, frame_of, outcome_of, predicate_looked_at};
 ghost use Rattle.spx_interp.specs.Rooms.{HasRoom, VarsHaveRoom};
 
 use crate::body::Body;
 use crate::entry::entry_of;
-use crate::fault::{Finish, RunFault};
+use crate::fault::{Finish, RunFault, RunLimit};
 use crate::slots::look;
 use crate::statements::{look_at, run_stmts};
 use crate::step::Step;
 use spx_core::laws::{names_are_scoped, rules_hold};
 use spx_core::{CorePredicate, Program, Sub, SubId, VarSet};
-use spx_meaning::{Bad, BadKind, Store, Value, copy_slots};
+use spx_meaning::{Bad, BadKind, Store, Value, copy_slots, has_many_elements};
 use std::alloc::Global;
 
 /// Looks at a precondition or a postcondition. None is true.
@@ -132,6 +132,16 @@ fn run_sub(
     Ok(Run { slots, step })
 }
 
+/// The fault of a run, in which the limit can only be that on bits.
+fn in_bits(fault: RunFault) -> RunFault
+    ensures { result ≡ in_bits fault }
+{
+    match fault {
+        RunFault::TooLarge(_) => RunFault::TooLarge(RunLimit::Bits),
+        RunFault::Memory => RunFault::Memory,
+    }
+}
+
 /// Runs a call of a subprogram within a bound on the turns of its loops. The store changes only where the call has ended.
 pub fn call(
     alloc: Global,
@@ -150,7 +160,13 @@ pub fn call(
     names_are_scoped();
     rules_hold();
     let sub = &program.subs.as_slice()[id.0];
-    let run = run_sub(alloc, program, sub, store, turns)?;
+    if has_many_elements(alloc, program, sub)? {
+        return Err(RunFault::TooLarge(RunLimit::Elements));
+    }
+    let run = match run_sub(alloc, program, sub, store, turns) {
+        Ok(run) => run,
+        Err(fault) => return Err(in_bits(fault)),
+    };
     match run.step {
         Step::Ended => {
             *store = Store::from_values(run.slots);

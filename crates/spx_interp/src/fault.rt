@@ -18,6 +18,8 @@ pub enum Finish {
 /// What has a limit in a run.
 #[derive(Clone, Copy, Debug, PartialEq, Eq)]
 pub enum RunLimit {
+    /// The array elements of the variables of the subprogram: at most 1,000,000.
+    Elements,
     /// The bits of a number that an annotation computes: at most 128.
     Bits,
 }

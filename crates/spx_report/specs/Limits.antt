@@ -1,7 +1,7 @@
 -- Limits, and what a fault says of a program.
 use Rattle.std.specs.Prelude.{◌≡◌, ⊤, ℕ, Bool, true, List, Option, Some, codes}
 use Rattle.spx_report.specs.declared.limit.LimitName.{LimitName}
-use Rattle.spx_report.specs.declared.limit.LimitName.TheVariants.{FileSize, Tokens, Nesting, Variables, Paths, Nodes, Bits}
+use Rattle.spx_report.specs.declared.limit.LimitName.TheVariants.{FileSize, Tokens, Nesting, Variables, Paths, Nodes, Elements, Bits}
 use Rattle.spx_report.specs.declared.limit.FindFault.{FindFault}
 use Rattle.spx_report.specs.declared.limit.FindFault.TheVariants.{Limit, Memory}
 
@@ -13,6 +13,7 @@ limit_text Nesting = codes "limit: nesting, at most 200\n"
 limit_text Variables = codes "limit: variables, at most 4096\n"
 limit_text Paths = codes "limit: paths, at most 4096\n"
 limit_text Nodes = codes "limit: nodes, at most 1000000\n"
+limit_text Elements = codes "limit: elements, at most 1000000\n"
 limit_text Bits = codes "limit: bits, at most 128\n"
 
 -- the fault is this limit, and the test says that it is passed; or else memory ran out

@@ -20,6 +20,8 @@ pub enum LimitName {
     Paths,
     /// The nodes of a verification condition.
     Nodes,
+    /// The array elements of the variables of a run.
+    Elements,
     /// The bits of a number that an annotation computes in a run.
     Bits,
 }
@@ -36,6 +38,7 @@ impl LimitName {
             LimitName::Variables => b"limit: variables, at most 4096\n",
             LimitName::Paths => b"limit: paths, at most 4096\n",
             LimitName::Nodes => b"limit: nodes, at most 1000000\n",
+            LimitName::Elements => b"limit: elements, at most 1000000\n",
             LimitName::Bits => b"limit: bits, at most 128\n",
         }
     }

@@ -14,7 +14,8 @@ use Rattle.spx_meaning.specs.declared.bad.Bad.{Bad}
 use Rattle.spx_meaning.specs.Stores.{Store, look, unset_store}
 use Rattle.spx_meaning.specs.Runs as runs
 use Rattle.spx_meaning.specs.Limits.{call_passes}
-use Rattle.spx_report.specs.declared.limit.LimitName.TheVariants.{Bits}
+use Rattle.spx_meaning.specs.Elements.{has_many_elements}
+use Rattle.spx_report.specs.declared.limit.LimitName.TheVariants.{Elements, Bits}
 use Rattle.spx_report.specs.Limits.{limit_text}
 use Rattle.spx_report.specs.Report.{place_text, spot_text, verdict}
 use Rattle.spx_run.specs.declared.inputs.InputLine.{InputLine}
@@ -42,9 +43,11 @@ ended_as p sub turns (runs.Left s) = Ended (outputs p sub s)
 ended_as p sub turns (runs.Bad kind place) = Faulted (record { kind = kind; place = place })
 ended_as p sub turns runs.Later = NotEnded turns
 
--- the result of a call at this bound; a limit that it passes comes before all else
+-- the result of a call at this bound; a limit that it passes comes before all else, and that on elements before that on bits
 abbrev pub result_of_call : Program → Sub → (turns : ℕ) → Store → RunResult
-result_of_call p sub turns s = if call_passes p turns sub s then TooLarge else ended_as p sub turns (runs.call p turns sub s)
+result_of_call p sub turns s =
+    if has_many_elements p sub then TooLarge Elements else
+    if call_passes p turns sub s then TooLarge Bits else ended_as p sub turns (runs.call p turns sub s)
 
 -- findings on the inputs come before the run
 abbrev pub after_findings : Program → Sub → (turns : ℕ) → List InputLine → List InputFinding → RunResult
@@ -109,7 +112,7 @@ input_line names (NoSubprogram name) = codes "I5 no such subprogram: " ++ (name 
 -- what is printed, where the files have these names
 unfoldable pub result_text : List (List ℕ) → RunResult → List ℕ
 result_text names (Refused found) = flat_map (input_line names) found ++ verdict (length found)
-result_text names TooLarge = limit_text Bits
+result_text names (TooLarge limit) = limit_text limit
 result_text names (Faulted fault) = fault_line names fault
 result_text names (NotEnded n) = turns_line n
 result_text names (Ended all) = flat_map output_line all

@@ -16,8 +16,9 @@ use crate::inputs::InputLine;
 use crate::result::{InputFinding, Output, RunResult};
 use spx_core::laws::names_are_scoped;
 use spx_core::{Program, Sub, SubId, VarId, VarSet};
-use spx_interp::{Finish, RunFault, call};
+use spx_interp::{Finish, RunFault, RunLimit, call};
 use spx_meaning::Store;
+use spx_report::LimitName;
 use spx_text::Text;
 use sqlite_items::Items;
 use std::alloc::{AllocError, Global};
@@ -109,7 +110,10 @@ fn run_call(
         Ok(Finish::Ended) => ended(alloc, program, sub, &store),
         Ok(Finish::Faulted(bad)) => Ok(RunResult::Faulted(bad)),
         Ok(Finish::Later) => Ok(RunResult::NotEnded(turns)),
-        Err(RunFault::TooLarge(_)) => Ok(RunResult::TooLarge),
+        Err(RunFault::TooLarge(RunLimit::Elements)) => {
+            Ok(RunResult::TooLarge(LimitName::Elements))
+        }
+        Err(RunFault::TooLarge(RunLimit::Bits)) => Ok(RunResult::TooLarge(LimitName::Bits)),
         Err(RunFault::Memory) => Err(AllocError),
     }
 }

@@ -38,8 +38,9 @@ pub struct Output {
 pub enum RunResult {
     /// There is no run, for these reasons.
     Refused(Items<InputFinding>),
-    /// An annotation computes a number of more than 128 bits.
-    TooLarge,
+    /// A limit is passed: that on the array elements of the variables before the run, or that on the bits of a number that an
+    /// annotation computes in it.
+    TooLarge(LimitName),
     /// A check fails.
     Faulted(Bad),
     /// The run does not end within so many turns.
@@ -69,7 +70,7 @@ impl RunResult {
                 put_findings(alloc, out, files, findings.as_slice())?;
                 out.extend_from_slice(verdict_text(alloc, findings.len())?.as_slice())
             }
-            RunResult::TooLarge => out.extend_from_slice(LimitName::Bits.text()),
+            RunResult::TooLarge(limit) => out.extend_from_slice(limit.text()),
             RunResult::Faulted(fault) => put_fault(alloc, out, files, *fault),
             RunResult::NotEnded(turns) => put_turns(alloc, out, *turns),
             RunResult::Ended(outputs) => put_outputs(alloc, out, outputs.as_slice()),
