@@ -21,6 +21,7 @@ MOST_LEVELS = 200
 MOST_VARIABLES = 4096
 MOST_PATHS = 4096
 MOST_NODES = 1000000
+MOST_ELEMENTS = 1000000
 MOST_TURNS = 1000000000
 TURNS = 1000000
 USAGE = ('usage: check [--proofs FILE] FILE... | conditions FILE... | '
@@ -76,6 +77,10 @@ class TooManyPaths(Exception):
 
 class TooManyNodes(Exception):
     """A verification condition has more nodes than one may have."""
+
+
+class TooManyElements(Exception):
+    """The variables of a run have more array elements than they may have."""
 
 
 class TooManyBits(Exception):
@@ -1395,6 +1400,14 @@ class Parted:
         new = old.with_part(rest, others, value) if rest else value
         parts = {at: part for at, part in self.parts.items() if at != key}
         return Parted(self.kind, parts if new == first_value(step.subtype) else parts | {key: new})
+
+
+@cache
+def elements_in(kind):
+    """The array elements of a value of a type. An array has its own ones, and those in each of them."""
+    if kind.element:
+        return (kind.index.last - kind.index.first + 1) * (1 + elements_in(kind.element.kind))
+    return sum(elements_in(field.subtype.kind) for field in (kind.fields or {}).values())
 
 
 def first_value(subtype):
@@ -3907,6 +3920,8 @@ def ran(asked, procedures, lines):
     findings = list(input_findings(entry, asked.inputs, lines))
     if findings:
         raise BadInputs(*findings)
+    if sum(elements_in(subtype.kind) for subtype in entry.subtypes.values()) > MOST_ELEMENTS:
+        raise TooManyElements
     try:
         exports = Run(entry, store_of(entry, lines)).call(asked.turns)
     except Fault as fault:
@@ -3940,7 +3955,8 @@ def limit(name, number):
 
 LIMITS = {TooManyTokens: limit('tokens', MOST_TOKENS), TooNested: limit('nesting', MOST_LEVELS),
           TooManyVariables: limit('variables', MOST_VARIABLES), TooManyPaths: limit('paths', MOST_PATHS),
-          TooManyNodes: limit('nodes', MOST_NODES), TooManyBits: limit('bits', 128)}
+          TooManyNodes: limit('nodes', MOST_NODES), TooManyElements: limit('elements', MOST_ELEMENTS),
+          TooManyBits: limit('bits', 128)}
 
 
 def phases(asked, files):

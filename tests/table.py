@@ -3710,8 +3710,21 @@ end Signs;
 '''
 
 
+PICK = """procedure Pick (Y : out Integer)
+--# derives Y from ;
+is
+   subtype Two is Integer range 1 .. 2;
+   type Pair is array (Two) of Integer;
+   A : Pair;
+begin
+   @A (1) := 5;
+   Y := A (2);
+end Pick;
+"""
+
+
 def worked_texts():
-    """Four texts of several lines, and what is one token away from them."""
+    """Five texts of several lines, and what is one token away from them."""
     yield refused('choose.adb', CHOOSE.replace('derives Y', 'derives @Y'), 'F1 missing: Y from B')
     yield accepted('choose_by_its_import.adb', CHOOSE.replace('from & null', ''), 2, named='Choose')
     yield refused('part.adb', PART.replace(':= T', ':= @T'), 'F4 unset: T')
@@ -3722,6 +3735,10 @@ def worked_texts():
     yield left_at('signs_of_what_is_not_the_least.adb', SIGNS.replace('/= 0;', "/= 0 and A > Integer'First;"), 7, named='Signs')
     yield unexpected('choose_by_two_operators.adb', CHOOSE.replace('if B then', 'if A and B @or C then'))
     yield bad_byte('inc_by_two_underscores.adb', procedure('X@__1', pre=BELOW))
+    # An array that is assigned part by part is unset at its first part, and nothing else of it is said.
+    yield refused('pick.adb', PICK, 'F4 unset: A')
+    yield refused('pick_with_each_element.adb', PICK.replace('@A (1) := 5', '@A (1) := 0;\n   A (2) := 0;\n   A (1) := 5'), 'F4 unset: A')
+    yield refused('pick_with_an_index_outside.adb', PICK.replace('@A (1) := 5', '@A (1) := 0;\n   A (2) := 0;\n   A (3) := 5'), 'F4 unset: A')
 
 
 # The quotient, the remainder and the modulus of two numbers.
@@ -5781,6 +5798,47 @@ def runs_of_parts():
     yield ended('run_past_parts.adb', run('if X > 5 then L (X) := L (X + 1); end if'), 'X = 5', 'X = 5')
 
 
+def elements_of_runs():
+    """The elements of all arrays in the types of the variables count, set or not, at every depth. They are counted before the run."""
+    def list_of(last, more='', name='List', element='Integer'):
+        return f'subtype Of_{name} is Integer range 1 .. {last}; type {name} is array (Of_{name}) of {element}{more}'
+    def run(*declared, **more):
+        return longer(X, 'X from X', 'X := 1', declared=list(declared), **more)
+    def fits(name, *declared):
+        return ended(f'elements_of_{name}.adb', run(*declared), 'X = 0', 'X = 1')
+    def passes(name, *declared):
+        return too_many_in_run(f'too_many_elements_of_{name}.adb', run(*declared), 'X = 0')
+    million = 1000000
+    yield fits('a_list', list_of(million, '; L : List'))
+    yield passes('a_list', list_of(million + 1, '; L : List'))
+    yield fits('a_type', list_of(million + 1))
+    yield passes('integers', 'type List is array (Integer) of Integer; L : List')
+    wide = 'type Long is range -2 ** 63 .. 2 ** 63 - 1'
+    yield passes('a_wide_index', f'{wide}; type Wide is array (Long) of Integer; L : Wide')
+    yield passes('arrays_of_a_wide_index', f'{wide}; type Wide is array (Long) of Integer; type Wider is array (Long) of Wide; L : Wider')
+    yield fits('two_lists', list_of(million // 2, '; L, K : List'))
+    yield passes('two_lists', list_of(million // 2, '; L, K : List'), list_of(1, '; M : One', 'One'))
+    yield fits('rows', list_of(999), list_of(1000, '; R : Rows', 'Rows', 'List'))
+    yield passes('rows', list_of(1000), list_of(1000, '; R : Rows', 'Rows', 'List'))
+    yield fits('one_row', list_of(million - 1), list_of(1, '; R : Rows', 'Rows', 'List'))
+    yield passes('one_row', list_of(million), list_of(1, '; R : Rows', 'Rows', 'List'))
+    two = 'type Two is record P, Q : List; N : Integer; end record; R : Two'
+    yield fits('fields', list_of(million // 2), two)
+    yield passes('fields', list_of(million // 2 + 1), two)
+    yield fits('literals', 'type Hue is (Red, Green, Blue)', 'type Table is array (Hue) of Integer; T : Table', list_of(million - 3, '; L : List'))
+    yield passes('literals', 'type Hue is (Red, Green, Blue)', 'type Table is array (Hue) of Integer; T : Table', list_of(million - 2, '; L : List'))
+    yield passes('a_subtype', list_of(million + 1), 'subtype Same is List; L : Same')
+    doubled = [f'type T{at} is record P, Q : T{at - 1}; end record' for at in range(1, 31)]
+    yield fits('records_that_double', 'type T0 is record N : Integer; end record', *doubled, 'V : T30')
+    yield passes('records_that_double', list_of(1, name='T0'), *doubled, 'V : T30')
+    # What is wrong with the inputs comes first, and the precondition and its bits come after.
+    many = list_of(million + 1, '; L : List')
+    yield run_on('elements_and_inputs.adb', run(many), 'X = True', ['in.txt:1:1: I3 value is not of the type', 'refused: 1'], 1)
+    yield too_many_in_run('elements_before_the_precondition.adb', run(many, pre='X > 5'), 'X = 0')
+    yield too_many_in_run('elements_before_bits.adb', run(many, pre='X ** 200 > 5'), 'X = 2')
+    yield run_on('elements_of_another_procedure.adb', run(many) + short('Two', 'Y'), 'Y = 1', ['Y = 1'], 0, entry='Two')
+
+
 # ---------------------------------------------------------------- functions of types
 
 MAPPED = (f'{SMALL}; {LONG}; {WARM}; type Gear is (Up, Down); subtype Low is Small range 1 .. 5; subtype Flag is Boolean; '
@@ -6998,6 +7056,11 @@ def too_wide_in_run(name, text, inputs, **more):
     return run_on(name, text, inputs, ['limit: bits, at most 128'], 6, **more)
 
 
+def too_many_in_run(name, text, inputs, **more):
+    """The variables of the entry have more array elements than those of a run may have."""
+    return run_on(name, text, inputs, ['limit: elements, at most 1000000'], 6, **more)
+
+
 SIGNS_TEXT = """procedure Signs (A, B : in Integer; Q, R, M : out Integer)
 --# derives Q, R, M from A, B;
 --# pre B /= 0;
@@ -7873,7 +7936,7 @@ GROUPS = (form, relations, simplifier, numbers, places, words, layout, comments,
           universal_powers_in_annotations, checks_of_universal_powers, conditions_of_enumerations, flow_of_types, levels_of_declarations, syntax_of_declarations,
           syntax_of_arrays, syntax_of_records, breaches_of_declarations, array_types, record_types, uses_of_composites, flow_of_composites,
           conditions_of_composites, runs_of_composites, syntax_of_parts, levels_of_parts, rules_of_parts, indexes_of_parts, parts_in_order, flow_of_parts,
-          attributes_of_arrays, conditions_of_parts, parts_that_close, nodes_of_parts, runs_of_parts, functions_of_types, conditions_of_functions, flow_of_functions, syntax_of_functions,
+          attributes_of_arrays, conditions_of_parts, parts_that_close, nodes_of_parts, runs_of_parts, elements_of_runs, functions_of_types, conditions_of_functions, flow_of_functions, syntax_of_functions,
           initial_values, values_of_choices, rules_of_choices, conditions_of_cases, flow_of_cases, syntax_of_cases,
           places_of_checks, syntax_of_checks, syntax_of_predicates, cut_and_spoiled, rules_of_predicates, flow_of_checks,
           conditions_of_annotations, places_of_assertions, rules_of_assertions, facts_after_cuts, order_of_cuts,
