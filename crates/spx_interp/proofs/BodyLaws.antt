@@ -19,7 +19,8 @@ use Rattle.spx_interp.specs.declared.fault.RunLimit.{RunLimit}
 use Rattle.spx_interp.specs.declared.fault.RunFault.{RunFault}
 use Rattle.spx_interp.specs.declared.fault.RunFault.TheVariants.{TooLarge, Memory}
 use Rattle.spx_interp.specs.declared.step.Step.{Step}
-use Rattle.spx_interp.specs.Calls.{IsCall}
+use Rattle.spx_interp.specs.Calls.{IsCall, in_bits}
+use Rattle.spx_meaning.specs.Elements.{has_many_elements}
 use Rattle.spx_interp.specs.Results.{Done, body_ended, body_ran, call_ran, limited, outcome_of, predicate_looked_at, ran}
 use Rattle.spx_interp.proofs.RunForms.{limited_ended, on_ended}
 
@@ -114,10 +115,10 @@ module _ (p : Program) (sub : Sub) (obeys : ObeysRules p sub) (n : ℕ) (s : Sto
   pub never_left : (t : Store) → call p n sub s ≡ Left t → ⊥
   never_left t is = subst Stays is call_stays
 
--- a fault that is no limit says nothing, and one that is one says that the limit is passed
-pub faulted : (p : Program) (sub : Sub) (n : ℕ) (s : Store) (fault : RunFault) → ((limit : RunLimit) → fault ≡ TooLarge limit → call_passes p n sub s ≡ true) → IsCall p sub n s (Err fault) s
-faulted p sub n s (TooLarge limit) passed = (passed limit refl, refl)
-faulted p sub n s Memory passed = refl
+-- a fault that is no limit says nothing, and one that is one says that the limit on bits is passed, where that on elements is not
+pub faulted : (p : Program) (sub : Sub) (n : ℕ) (s : Store) (fault : RunFault) → has_many_elements p sub ≡ false → ((limit : RunLimit) → fault ≡ TooLarge limit → call_passes p n sub s ≡ true) → IsCall p sub n s (Err (in_bits fault)) s
+faulted p sub n s (TooLarge limit) few passed = (few, passed limit refl, refl)
+faulted p sub n s Memory few passed = refl
 
 -- a part that has passed the limit
 pub limited_by : {A : Type 0} (fault : RunFault) (limit : RunLimit) (s : Store) (o : Option Outcome) (r : Result A RunFault) → r ≡ Err fault → r ≡ Err (TooLarge limit) → Done (Err fault) s o → o ≡ None

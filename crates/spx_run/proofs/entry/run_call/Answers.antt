@@ -1,15 +1,28 @@
-use Rattle.std.proofs.Common.{◌≡◌, true, ap, sym}
+use Rattle.std.proofs.Common.{◌≡◌, true, false, ap, sym, ◌∙◌}
 use Rattle.std.specs.Prelude.{if◌then◌else◌}
+use Rattle.spx_meaning.specs.Elements.{has_many_elements}
 use Rattle.spx_meaning.specs.Runs as runs
 use Rattle.spx_meaning.specs.Limits.{call_passes}
+use Rattle.spx_report.specs.declared.limit.LimitName.TheVariants.{Bits, Elements}
 use Rattle.spx_run.specs.declared.result.RunResult.TheVariants.{TooLarge}
 use Rattle.spx_run.specs.Results.{ended_as}
 use Rattle.spx_run.proofs.entry.run_call.Goals as goal
 
-pub returns-in-Err-TooLarge : goal.returns-in-Err-TooLarge
-returns-in-Err-TooLarge c =
+pub returns-in-Err-TooLarge-Elements : goal.returns-in-Err-TooLarge-Elements
+returns-in-Err-TooLarge-Elements c =
     let p = c.args.program.now in
     let sub = c.args.sub.now in
-    let is = rw c.in-Err-TooLarge.field-0-is at (c.in-Err-TooLarge.ensures.runs sub c.requires.sub) in
-    let passes : call_passes p c.args.turns sub c.args.store ≡ true = is.0 in
-    sym (ap (λ b. if b then TooLarge else ended_as p sub c.args.turns (runs.call p c.args.turns sub c.args.store)) passes)
+    let is = rw c.in-Err-TooLarge-Elements.field-0-is at (c.in-Err-TooLarge-Elements.ensures.runs sub c.requires.sub) in
+    let many : has_many_elements p sub ≡ true = is.0 in
+    sym (ap (λ b. if b then TooLarge Elements else if call_passes p c.args.turns sub c.args.store then TooLarge Bits else ended_as p sub c.args.turns (runs.call p c.args.turns sub c.args.store)) many)
+
+pub returns-in-Err-TooLarge-Bits : goal.returns-in-Err-TooLarge-Bits
+returns-in-Err-TooLarge-Bits c =
+    let p = c.args.program.now in
+    let sub = c.args.sub.now in
+    let is = rw c.in-Err-TooLarge-Bits.field-0-is at (c.in-Err-TooLarge-Bits.ensures.runs sub c.requires.sub) in
+    let few : has_many_elements p sub ≡ false = is.0 in
+    let passes : call_passes p c.args.turns sub c.args.store ≡ true = is.1 in
+    sym
+    (ap (λ b. if b then TooLarge Elements else if call_passes p c.args.turns sub c.args.store then TooLarge Bits else ended_as p sub c.args.turns (runs.call p c.args.turns sub c.args.store)) few
+    ∙ ap (λ b. if b then TooLarge Bits else ended_as p sub c.args.turns (runs.call p c.args.turns sub c.args.store)) passes)
