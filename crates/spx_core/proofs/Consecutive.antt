@@ -41,7 +41,8 @@ use Rattle.spx_core.specs.declared.program.Var.{Var}
 use Rattle.spx_core.specs.declared.program.Program.{Program}
 use Rattle.spx_core.specs.Formals.{stands_in}
 use Rattle.spx_core.specs.Regions.{Region, Regions}
-use Rattle.spx_core.specs.ResolvedExpressions.{Scene, in_code, in_declaration, resolved_range, resolved_reference, static_value, resolved_static}
+use Rattle.spx_core.specs.ResolvedExpressions.{Scene, in_code, in_declaration, resolved_range, resolved_reference, resolved_static}
+use Rattle.spx_core.specs.StaticValues.{static_value}
 use Rattle.spx_core.specs.DeclaredNames.{around_names, declaring, declaring_all, defining, defining_all, meant_at, object_of, variable_at}
 use Rattle.spx_core.specs.ResolvedStatements.{declared_by_scheme, resolved_scheme}
 use Rattle.spx_core.specs.ResolvedDeclarations.{bounded, constant_of, counted, Before, next_type, declared_by, declared_by_decls, declared_by_params, enumeration_type, id_at, integer_type, local_kind, mode_of, narrowed, referred_subtype, resolved_decl, resolved_decls, resolved_param, resolved_params, resolved_type, rows_by, rows_by_decls, variables_by, variables_by_decls}

@@ -40,7 +40,8 @@ use Rattle.spx_core.specs.declared.program.TypeRow.{TypeRow}
 use Rattle.spx_core.specs.declared.rule.ExprType.TheVariants.{Universal}
 use Rattle.spx_core.specs.Types.{is_between}
 use Rattle.spx_core.specs.Regions.{Region, Regions}
-use Rattle.spx_core.specs.ResolvedExpressions.{in_declaration, or_zero, resolved_range, resolved_reference, resolved_static, static_value, value_or_zero}
+use Rattle.spx_core.specs.ResolvedExpressions.{in_declaration, resolved_range, resolved_reference, resolved_static}
+use Rattle.spx_core.specs.StaticValues.{or_zero, static_value, value_or_zero}
 use Rattle.spx_core.specs.DeclaredNames.{around_names, declaring, declaring_all, defining, defining_all, object_of, subtype_of}
 
 -- ---- declared types and values (Ada 95 RM 3.2.2, 3.3, 3.5)

@@ -1,6 +1,6 @@
 -- Expressions, ranges and targets in which each name stands with what it denotes at its place, and the values of those that are
 -- static (Ada 95 RM 4). This is total: a name that no visible declaration explains stands with nothing.
-use Rattle.std.specs.Prelude.{ℤ, pos, Bool, ◌&&◌, not, true, false, zero, suc, if◌then◌else◌, List, [], ◌∷◌, map, Option, Some, None, Ok, Err}
+use Rattle.std.specs.Prelude.{take, drop, ℤ, pos, Bool, ◌&&◌, not, true, false, zero, suc, if◌then◌else◌, List, [], ◌∷◌, map, Option, Some, None, Ok, Err}
 use Rattle.spx_tree.specs.declared.expression.Identifier.{Identifier}
 use Rattle.spx_tree.specs.declared.expression.Name.{Name}
 use Rattle.spx_tree.specs.declared.expression.Arguments.TheVariants.{Positional}
@@ -42,6 +42,9 @@ use Rattle.spx_core.specs.declared.rule.ExprType.TheVariants.{Universal, Of}
 use Rattle.spx_core.specs.declared.rule.Typing.{Typing}
 use Rattle.spx_core.specs.Judged.{Judged, has_attribute, is_attribute, judged}
 use Rattle.spx_core.specs.Contexts.{in_context, type_along}
+use Rattle.spx_core.specs.ResolvedAggregates.{aggregate_value}
+use Rattle.spx_tree.specs.Written.{aggregate_takes}
+use Rattle.spx_tree.specs.declared.expression.Aggregate.TheVariants as Aggregate
 use Rattle.spx_core.specs.NamedParts.{Along, along, fault_at, followed, form_in}
 use Rattle.spx_core.specs.WrittenExpressions.{erased_expr}
 use Rattle.spx_core.specs.Regions.{Regions, denoted}
@@ -153,6 +156,7 @@ function_value root form place operand = expr.Applied (record { name = root; for
 -- why a name that begins with no variable denotes nothing: a function of a type takes one operand
 abbrev pub fault_of_type : Option Entity → List NameStep → NameFault
 fault_of_type (Some (entity.TypeName subtype)) (name_step.Applied place arguments ∷ []) = WrongArguments
+fault_of_type (Some (entity.TypeName subtype)) (name_step.Qualified place written ∷ []) = WrongArguments
 fault_of_type (Some (entity.TypeName subtype)) (name_step.Attribute designator ∷ name_step.Applied place arguments ∷ []) = if has_attribute subtype designator.text then WrongArguments else NoPart
 fault_of_type denoted steps = NoPart
 
@@ -166,8 +170,21 @@ value_of_other scene root path parts = by_steps path.steps parts
     by_steps (name_step.Attribute designator ∷ []) [] = expr.Attribute (record { name = root.name; entity = attributed scene.types designator root.entity }) designator
     by_steps (name_step.Applied place (Positional (suc zero)) ∷ []) (operand ∷ []) = function_value root function_form.Simple place operand
     by_steps (name_step.Attribute designator ∷ name_step.Applied place (Positional (suc zero)) ∷ []) (operand ∷ []) = function_value root (function_form.Attribute designator) place operand
-    by_steps (name_step.Qualified place ∷ []) (operand ∷ []) = function_value root function_form.Qualified place operand
+    by_steps (name_step.Qualified place (Aggregate.Positional (suc zero)) ∷ []) (operand ∷ []) = function_value root function_form.Qualified place operand
     by_steps steps _ = faulty_value root (fault_of_type root.entity steps) path parts
+
+-- The value of a name that begins with a type: an aggregate has parts, as an object of its type.
+abbrev pub value_of_type : Scene → CoreName → Subtype → Path → List CoreExpr → CoreExpr
+value_of_type scene root subtype path parts = by_steps path.steps
+  where
+    by_value : List NameStep → List CoreExpr → Option CoreExpr → CoreExpr
+    by_value steps left (Some a) = value_along scene root path parts a (along scene.types subtype steps left)
+    by_value steps left None = value_of_other scene root path parts
+
+    by_steps : List NameStep → CoreExpr
+    by_steps (name_step.Qualified place written ∷ steps) =
+        by_value steps (drop (aggregate_takes written) parts) (aggregate_value root place written subtype.base.id (form_in scene.types subtype.base.id) (take (aggregate_takes written) parts))
+    by_steps steps = value_of_other scene root path parts
 
 -- where a value is needed
 abbrev pub value_of_path : Scene → CoreName → Path → List CoreExpr → CoreExpr
@@ -175,6 +192,7 @@ value_of_path scene root path parts = by_root root.entity
   where
     by_root : Option Entity → CoreExpr
     by_root (Some (entity.Variable v object)) = value_of_variable scene root object.subtype path parts
+    by_root (Some (entity.TypeName subtype)) = value_of_type scene root subtype path parts
     by_root other = value_of_other scene root path parts
 
 -- the same in regions
@@ -245,23 +263,3 @@ type_of_target target = type_along target.root.entity target.way
 -- an assignment to this
 abbrev pub assignment_to : List TypeRow → Regions → Target → Expr → CoreStmt
 assignment_to types regions target value = stmt.Assignment target (resolved_expr (in_code types) (type_of_target target) regions value)
-
--- ---- static values (Ada 95 RM 4.9)
-
--- the value of an expression that breaks no rule, if it is static
-abbrev pub value_in : Judged Typing → Option ℤ
-value_in (Ok t) = t.value
-value_in (Err breach) = None
-
--- the value of an expression that is static and breaks no rule (Ada 95 RM 4.9)
-abbrev pub static_value : CoreExpr → Option ℤ
-static_value e = value_in (judged e)
-
--- what is not static breaks a rule, and counts as 0
-abbrev pub or_zero : Option ℤ → ℤ
-or_zero (Some n) = n
-or_zero None = pos 0
-
--- the static value of an expression, or 0
-abbrev pub value_or_zero : CoreExpr → ℤ
-value_or_zero e = or_zero (static_value e)

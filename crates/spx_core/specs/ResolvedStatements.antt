@@ -38,15 +38,11 @@ use Rattle.spx_core.specs.declared.program.TypeRow.{TypeRow}
 use Rattle.spx_core.specs.declared.rule.ExprType.{ExprType}
 use Rattle.spx_core.specs.Contexts.{type_given}
 use Rattle.spx_core.specs.Regions.{Region, Regions, is_declared}
-use Rattle.spx_core.specs.ResolvedExpressions.{Scene, assignment_to, in_annotation, in_code, resolved_condition, resolved_range, resolved_reference, resolved_static, resolved_target, value_or_zero}
+use Rattle.spx_core.specs.ResolvedExpressions.{Scene, assignment_to, in_annotation, in_code, resolved_condition, resolved_range, resolved_reference, resolved_static, resolved_target}
+use Rattle.spx_core.specs.StaticValues.{value_or_zero}
 use Rattle.spx_core.specs.DeclaredNames.{around_names, declaring_all, object_of}
 
 -- ---- choices
-
--- the values of a choice
-abbrev pub chosen_by : CoreExpr → Option CoreExpr → Span
-chosen_by low None = record { first = value_or_zero low; last = value_or_zero low }
-chosen_by low (Some high) = record { first = value_or_zero low; last = value_or_zero high }
 
 -- a choice with these bounds, and the span of its values
 abbrev pub choice_of : CoreExpr → Option CoreExpr → CoreChoice

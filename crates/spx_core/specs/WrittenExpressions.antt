@@ -2,6 +2,7 @@
 use Rattle.std.specs.Prelude.{List, [], ◌∷◌, ◌++◌, map}
 use Rattle.std.specs.List.{flat_map}
 use Rattle.spx_text.specs.declared.place.Place.{Place}
+use Rattle.spx_tree.specs.declared.expression.Aggregate.TheVariants as aggregate
 use Rattle.spx_tree.specs.declared.expression.Arguments.TheVariants.{Positional}
 use Rattle.spx_tree.specs.declared.expression.Expr.{Expr, Expr-F, out-Expr}
 use Rattle.spx_tree.specs.declared.expression.Expr.TheVariants as expr
@@ -10,6 +11,8 @@ use Rattle.spx_tree.specs.declared.expression.Name.{Name}
 use Rattle.spx_tree.specs.declared.expression.NameStep.{NameStep}
 use Rattle.spx_tree.specs.declared.expression.NameStep.TheVariants as step
 use Rattle.spx_core.specs.declared.expression.CoreExpr.{CoreExpr, CoreExpr-F, fold-CoreExpr}
+use Rattle.spx_core.specs.declared.aggregate.Role.{Role}
+use Rattle.spx_core.specs.declared.aggregate.Role.TheVariants as role
 use Rattle.spx_core.specs.declared.function.FunctionForm.{FunctionForm}
 use Rattle.spx_core.specs.declared.function.FunctionForm.TheVariants as form
 use Rattle.spx_core.specs.declared.name.Defining.{Defining}
@@ -37,7 +40,7 @@ named root steps parts = expr.Name (record { root = root; steps = steps }) parts
 abbrev pub steps_of_function : Place → FunctionForm → List NameStep
 steps_of_function place form.Simple = step.Applied place (Positional 1) ∷ []
 steps_of_function place (form.Attribute designator) = step.Attribute designator ∷ step.Applied place (Positional 1) ∷ []
-steps_of_function place form.Qualified = step.Qualified place ∷ []
+steps_of_function place form.Qualified = step.Qualified place (aggregate.Positional 1) ∷ []
 
 -- a name with one more step and its expressions; what is no name stays as it is
 abbrev pub with_step : NameStep → List Expr → Expr → Expr
@@ -46,6 +49,14 @@ with_step s more e = at_level (out-Expr e)
     at_level : Expr-F Expr → Expr
     at_level (Expr-F.Name path parts) = named path.root (path.steps ++ s ∷ []) (parts ++ more)
     at_level other = e
+
+-- the expressions of an aggregate, with the choices that are names of fields
+abbrev pub with_fields : List Role → List Expr → List Expr
+with_fields (role.Index base ∷ roles) (e ∷ parts) = e ∷ with_fields roles parts
+with_fields (role.Value g of are_of_one ∷ roles) (e ∷ parts) = e ∷ with_fields roles parts
+with_fields (role.Field field ∷ roles) parts = named field [] [] ∷ with_fields roles parts
+with_fields (role.NoField place e ∷ roles) parts = e ∷ with_fields roles parts
+with_fields roles parts = []
 
 -- one level, whose parts are erased; an implicit conversion is not written
 abbrev pub erased_step : CoreExpr-F Expr → Expr
@@ -63,6 +74,7 @@ erased_step (CoreExpr-F.InRange op place tested low high) = expr.InRange op plac
 erased_step (CoreExpr-F.Element a place i x) = with_step (step.Applied place (Positional 1)) (i ∷ []) a
 erased_step (CoreExpr-F.Selected a field x) = with_step (step.Selected field) [] a
 erased_step (CoreExpr-F.ArrayAttribute a designator x) = with_step (step.Attribute designator) [] a
+erased_step (CoreExpr-F.Aggregate name c parts) = named name.name (step.Qualified c.place c.written ∷ []) (with_fields c.roles parts)
 erased_step (CoreExpr-F.Faulty faulty) = expr.Name faulty.name.path faulty.name.parts
 
 -- an expression as it was written

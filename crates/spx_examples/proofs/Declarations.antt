@@ -37,7 +37,8 @@ use Rattle.spx_core.specs.Judged.{Judged, ◌>>=◌, breach_in, each, expr_step,
 use Rattle.spx_core.specs.Obeyed.{obeyed_post, obeyed_pre}
 use Rattle.spx_core.specs.Places.{place_in}
 use Rattle.spx_core.specs.Regions.{Region, Regions}
-use Rattle.spx_core.specs.ResolvedExpressions.{in_code, in_declaration, or_zero, resolved_expr, resolved_reference, resolved_static, resolved_target, type_of_target, value_in}
+use Rattle.spx_core.specs.ResolvedExpressions.{in_code, in_declaration, resolved_expr, resolved_reference, resolved_static, resolved_target, type_of_target}
+use Rattle.spx_core.specs.StaticValues.{or_zero, value_in}
 use Rattle.spx_core.specs.DeclaredNames.{around_names, declaring as declared_after, declaring_all, defining, defining_all, object_of, subtype_of}
 use Rattle.spx_core.specs.ResolvedDeclarations.{Before, bounded, constant_of, counted, declared_by, declared_by_decls, integer_type, next_type, resolved_decl, resolved_decls, row_with, rows_by, rows_by_decls}
 use Rattle.spx_core.specs.Resolved.{after_formals, around_body, at_start, counted_sub, formal_names, own_types, params_of, resolved, resolved_sub, standard_types, unit_name}

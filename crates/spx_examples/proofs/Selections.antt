@@ -39,7 +39,8 @@ use Rattle.spx_core.specs.Extents.{extent, extent-Name, extent_in, extent_named,
 use Rattle.spx_core.specs.Judged.{Judged, ◌>>=◌, application, each, expr_step, if_there, judged, keeps, mapped, named_value}
 use Rattle.spx_core.specs.Places.{place_in, place_of}
 use Rattle.spx_core.specs.Regions.{Region, Regions}
-use Rattle.spx_core.specs.ResolvedExpressions.{Scene, in_code, or_zero, resolved_condition, resolved_expr, resolved_name, resolved_static, value_in}
+use Rattle.spx_core.specs.ResolvedExpressions.{Scene, in_code, resolved_condition, resolved_expr, resolved_name, resolved_static}
+use Rattle.spx_core.specs.StaticValues.{or_zero, value_in}
 use Rattle.spx_core.specs.ResolvedStatements.{Part, resolved_alternative, resolved_choice, resolved_stmt}
 use Rattle.spx_core.specs.Resolved.{around_body}
 use Rattle.spx_core.specs.ResolvedStatements as resolving

@@ -1,8 +1,9 @@
 // What declared names denote (Ada 95 RM 3.2, 3.3, 3.5).
 ghost use Rattle.std.specs.Prelude.{◌≡◌};
-ghost use Rattle.spx_core.specs.ResolvedExpressions.{static_value, type_of_target, value_or_zero};
+ghost use Rattle.spx_core.specs.ResolvedExpressions.{type_of_target};
+ghost use Rattle.spx_core.specs.StaticValues.{static_value, value_or_zero};
 ghost use Rattle.spx_core.specs.DeclaredNames.{object_of};
-ghost use Rattle.spx_core.specs.ResolvedStatements.{chosen_by};
+ghost use Rattle.spx_core.specs.StaticValues.{chosen_by};
 ghost use Rattle.spx_core.specs.ResolvedDeclarations.{bounded, composite_type, constant_of, enumeration_type, integer_base, integer_type, is_in_integer, local_kind, mode_of, narrowed};
 ghost use Rattle.spx_core.specs.Judged.{part_type};
 ghost use Rattle.spx_naming.specs.Steps.{step_type};

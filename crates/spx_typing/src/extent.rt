@@ -2,7 +2,7 @@
 ghost use Rattle.std.specs.Prelude.{◌≡◌, Some, pos};
 ghost use Rattle.spx_core.specs.Extents as values;
 ghost use Rattle.spx_core.specs.Judged.{application, attribute_of, named_type};
-ghost use Rattle.spx_core.specs.ResolvedExpressions.{static_value};
+ghost use Rattle.spx_core.specs.StaticValues.{static_value};
 ghost use Rattle.spx_core.specs.declared.expression.CoreExpr.{out-CoreExpr};
 
 use spx_core::{CoreExpr, CoreFunction, Entity, ExprType, FunctionForm, Span, Subtype, Typing};
