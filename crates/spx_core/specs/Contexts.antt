@@ -16,7 +16,7 @@ use Rattle.spx_core.specs.declared.entity.Entity.{Entity}
 use Rattle.spx_core.specs.declared.entity.Entity.TheVariants as entity
 use Rattle.spx_core.specs.declared.expression.CoreExpr.{CoreExpr}
 use Rattle.spx_core.specs.declared.expression.CoreExpr.TheBlock.{hidden-the_row-CoreExpr-0}
-use Rattle.spx_core.specs.declared.expression.CoreExpr.TheVariants.{Number, Name, Entry, Attribute, Applied, Parenthesized, Implicit, Prefix, Infix, InType, InRange, Element, Selected, ArrayAttribute, Aggregate, Faulty}
+use Rattle.spx_core.specs.declared.expression.CoreExpr.TheVariants.{Number, Name, Entry, Attribute, Applied, Parenthesized, Implicit, Prefix, Infix, InType, InRange, Element, Selected, ArrayAttribute, Aggregate', Faulty}
 use Rattle.spx_core.specs.declared.function.CoreFunction.{CoreFunction}
 use Rattle.spx_core.specs.declared.name.CoreName.{CoreName}
 use Rattle.spx_core.specs.declared.name.Reference.{Reference}
@@ -145,7 +145,7 @@ taking given (in_range_of op place a low high) =
 taking given (element_of a place i x) = converted given (Element a place i x) (Element (taking None a) place (taking (taken (Of x.index.base) (judged i)) i) x)
 taking given (selected_of a field x) = converted given (Selected a field x) (Selected (taking None a) field x)
 taking given (array_attribute_of a designator x) = converted given (ArrayAttribute a designator x) (ArrayAttribute (taking None a) designator x)
-taking given (Aggregate name c parts) = Aggregate name c parts
+taking given (Aggregate' name c ids parts) = Aggregate' name c ids parts
 taking given (Faulty faulty) = converted given (Faulty faulty) (Faulty faulty)
 
 -- an expression where it meets this type

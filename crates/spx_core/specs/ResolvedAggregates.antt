@@ -128,7 +128,7 @@ field_bounds fields choice = map (λ e. (field_role (is_some (field_chosen field
 
 -- the positions that some choice has
 abbrev pub chosen_fields : List Field → List Association → List ℕ
-chosen_fields fields as = flat_map (λ (a : Association). flat_map (λ choice. cons_option (field_chosen fields choice) []) (listed_choices a.choices)) as
+chosen_fields fields associations = flat_map (λ (a : Association). flat_map (λ choice. cons_option (field_chosen fields choice) []) (listed_choices a.choices)) associations
 
 abbrev pub is_among : ℕ → List ℕ → Bool
 is_among k positions = list_any (λ j. j == k) positions
