@@ -39,7 +39,7 @@ use Rattle.spx_core.specs.declared.rule.ExprType.{ExprType}
 use Rattle.spx_core.specs.Contexts.{type_given}
 use Rattle.spx_core.specs.Regions.{Region, Regions, is_declared}
 use Rattle.spx_core.specs.ResolvedExpressions.{Scene, assignment_to, in_annotation, in_code, resolved_condition, resolved_range, resolved_reference, resolved_static, resolved_target}
-use Rattle.spx_core.specs.StaticValues.{value_or_zero}
+use Rattle.spx_core.specs.StaticValues.{chosen_by}
 use Rattle.spx_core.specs.DeclaredNames.{around_names, declaring_all, object_of}
 
 -- ---- choices
