@@ -6,7 +6,7 @@ use Rattle.spx_core.specs.declared.expression.CoreExpr.{CoreExpr, CoreExpr-F, fo
 use Rattle.spx_core.specs.declared.expression.CoreExpr.TheVariants.{Implicit}
 use Rattle.spx_core.specs.declared.rule.ExprType.{ExprType}
 use Rattle.spx_core.specs.declared.rule.ExprType.TheVariants.{Of}
-use Rattle.spx_core.specs.Contexts.{converted, in_context, is_static, met_in_range, taken, taking, taking-Number, taking-Name, taking-Entry, taking-Attribute, taking-Applied, taking-Parenthesized, taking-Implicit, taking-Prefix, taking-Infix, taking-InType, taking-InRange, taking-Element, taking-Selected, taking-ArrayAttribute, taking-Faulty}
+use Rattle.spx_core.specs.Contexts.{converted, in_context, is_static, met_in_range, taken, taking, taking-Number, taking-Name, taking-Entry, taking-Attribute, taking-Applied, taking-Parenthesized, taking-Implicit, taking-Prefix, taking-Infix, taking-InType, taking-InRange, taking-Element, taking-Selected, taking-ArrayAttribute, taking-Aggregate, taking-Faulty}
 use Rattle.spx_core.specs.WrittenExpressions.{erased_expr, erased_step}
 use Rattle.spx_core.specs.Judged.{judged}
 use Rattle.spx_core.specs.Parts.{parts_in, parts_step}
@@ -69,6 +69,7 @@ module _ {A : Type 0} (step : CoreExpr-F A → A) (through : (base : BaseType) (
     array_attribute = λ a designator x p given.
         ap folded (taking-ArrayAttribute given a designator x)
         ∙ converted_folds given _ _ (fold-ArrayAttribute step _ designator x ∙ ap (λ y. step (CoreExpr-F.ArrayAttribute y designator x)) (p None) ∙ sym (fold-ArrayAttribute step a designator x));
+    aggregate = λ name x parts p given. ap folded (taking-Aggregate given name x parts);
     faulty = λ faulty given. ap folded (taking-Faulty given faulty) ∙ converted_folds given _ _ refl;
   }
 

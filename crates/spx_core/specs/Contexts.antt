@@ -1,6 +1,6 @@
 -- The type that a universal expression takes from its context (Ada 95 RM 3.4.1, 4.6, 8.6). A power of a universal number by an exponent that is not static is
 -- universal and not static, and so is what operators make of it. It takes the type that it meets: each of its largest static parts is converted to that type.
-use Rattle.std.specs.Prelude.{◌≡◌, refl, ℤ, Bool, true, false, not, ◌&&◌, is_some, List, Option, Some, None, if◌then◌else◌, Ok, Err}
+use Rattle.std.specs.Prelude.{List, ◌≡◌, refl, ℤ, Bool, true, false, not, ◌&&◌, is_some, List, Option, Some, None, if◌then◌else◌, Ok, Err}
 use denote.Hole.Carrier.{hidden}
 use Rattle.spx_text.specs.declared.place.Place.{Place}
 use Rattle.spx_core.specs.declared.function.FunctionForm.{FunctionForm}
@@ -16,7 +16,8 @@ use Rattle.spx_core.specs.declared.entity.Entity.{Entity}
 use Rattle.spx_core.specs.declared.entity.Entity.TheVariants as entity
 use Rattle.spx_core.specs.declared.expression.CoreExpr.{CoreExpr}
 use Rattle.spx_core.specs.declared.expression.CoreExpr.TheBlock.{hidden-the_row-CoreExpr-0}
-use Rattle.spx_core.specs.declared.expression.CoreExpr.TheVariants.{Number, Name, Entry, Attribute, Applied, Parenthesized, Implicit, Prefix, Infix, InType, InRange, Element, Selected, ArrayAttribute, Aggregate', Faulty}
+use Rattle.spx_core.specs.declared.expression.CoreExpr.TheVariants.{Number, Name, Entry, Attribute, Applied, Parenthesized, Implicit, Prefix, Infix, InType, InRange, Element, Selected, ArrayAttribute, Aggregate, Aggregate', Faulty}
+use Rattle.spx_core.specs.declared.aggregate.Composition.{Composition}
 use Rattle.spx_core.specs.declared.function.CoreFunction.{CoreFunction}
 use Rattle.spx_core.specs.declared.name.CoreName.{CoreName}
 use Rattle.spx_core.specs.declared.name.Reference.{Reference}
@@ -222,6 +223,10 @@ module _ (given : Option BaseType) where
   pub taking-ArrayAttribute : (a : CoreExpr) (designator : Identifier) (x : ArrayEnds) → taking given (ArrayAttribute a designator x) ≡ converted given (ArrayAttribute a designator x) (ArrayAttribute (taking None a) designator x)
   unfolding taking hidden-the_row-CoreExpr-0 hidden
   taking-ArrayAttribute a designator x = refl
+
+  pub taking-Aggregate : (name : CoreName) (x : Composition) (parts : List CoreExpr) → taking given (Aggregate name x parts) ≡ Aggregate name x parts
+  unfolding taking hidden-the_row-CoreExpr-0 hidden
+  taking-Aggregate name x parts = refl
 
   pub taking-Faulty : (faulty : FaultyName) → taking given (Faulty faulty) ≡ converted given (Faulty faulty) (Faulty faulty)
   unfolding taking
