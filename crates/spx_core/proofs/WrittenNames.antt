@@ -1,8 +1,9 @@
 -- A name that is resolved is written as it was.
 use Rattle.std.specs.Prelude.{⊤}
-use Rattle.std.proofs.Common.{◌≡◌, zero, suc, Bool, true, false, not, if◌then◌else◌, List, [], ◌∷◌, ◌++◌, map, Option, Some, None, ap, ap₂, ◌∙◌, sym, subst, refl}
+use Rattle.std.proofs.Common.{◌≡◌, zero, suc, Bool, true, false, not, if◌then◌else◌, List, [], ◌∷◌, ◌++◌, map, take, drop, Option, Some, None, ap, ap₂, ◌∙◌, sym, subst, refl}
 use Rattle.std.specs.List.{flat_map}
-use Rattle.std.proofs.lemmas.List.{append-nil, append_assoc}
+use Rattle.std.proofs.lemmas.List.{append-nil, append_assoc, map-append, take-append-drop}
+use Rattle.spx_tree.specs.declared.expression.Aggregate.TheVariants as aggregate
 use Rattle.spx_tree.specs.declared.expression.Arguments.TheVariants.{Positional}
 use Rattle.spx_tree.specs.declared.expression.Expr.{Expr, Expr-F}
 use Rattle.spx_tree.specs.declared.expression.Expr.TheVariants as written
@@ -32,8 +33,13 @@ use Rattle.spx_core.specs.Judged.{is_attribute}
 use Rattle.spx_core.specs.NamedParts.{Along, OneStep, along, ends_at, field_named, field_step, followed, form_in, going, part_step}
 use Rattle.spx_core.specs.WrittenExpressions.{erased_expr, erased_step, named, parts_written, step_written, with_step}
 use Rattle.spx_core.specs.Erased.{erased_target}
-use Rattle.spx_core.specs.ResolvedExpressions.{Scene, array_end, entry_of, faulty_value, or_faulty, part_value, step_in_context, target_at, target_of, value_along, value_at, value_of_other, value_of_path, value_of_variable}
+use Rattle.spx_core.specs.ResolvedExpressions.{Scene, array_end, entry_of, faulty_value, or_faulty, part_value, step_in_context, target_at, target_of, value_along, value_at, value_of_other, value_after, value_of_path, value_of_type, value_of_variable}
 use Rattle.spx_core.proofs.ContextLaws.{erased_in_context}
+use Rattle.spx_core.proofs.WrittenAggregates.{aggregate_is_written}
+use Rattle.spx_core.specs.ResolvedAggregates.{aggregate_value}
+use Rattle.spx_text.specs.declared.place.Place.{Place}
+use Rattle.spx_tree.specs.declared.expression.Aggregate.{Aggregate}
+use Rattle.spx_tree.specs.Written.{aggregate_takes}
 use Rattle.spx_core.proofs.Callers.Expressions.{fold-Name, fold-Entry, fold-Attribute, fold-Applied, fold-Element, fold-Selected, fold-ArrayAttribute, fold-Faulty}
 
 -- ---- one step more
@@ -141,21 +147,23 @@ or_faulty_written root path parts fault (Some value) is = is
 abbrev path_of : CoreName → List NameStep → Path
 path_of root steps = record { root = root.name; steps = steps }
 
--- the value of a part of what is written as the root and the steps before
-value_along_written : (scene : Scene) (root : CoreName) (before steps : List NameStep) (parts : List CoreExpr) (a : CoreExpr) (of : Subtype) → erased_expr a ≡ named root.name before []
-    → erased_expr (value_along scene root (path_of root (before ++ steps)) parts a (along scene.types of steps parts)) ≡ named root.name (before ++ steps) (all_written parts)
-value_along_written scene root before steps parts a of is =
+-- the value of a part of what is written as the root and the steps and expressions before
+value_along_written : (scene : Scene) (root : CoreName) (before steps : List NameStep) (front : List Expr) (all parts : List CoreExpr) (a : CoreExpr) (of : Subtype) → erased_expr a ≡ named root.name before front → front ++ all_written parts ≡ all_written all
+    → erased_expr (value_along scene root (path_of root (before ++ steps)) all a (along scene.types of steps parts)) ≡ named root.name (before ++ steps) (all_written all)
+value_along_written scene root before steps front all parts a of is whole =
     let x = along scene.types of steps parts in
-    let all = along_written scene.types of steps parts in
-    let value = value_is_written scene root.name (followed a x.way) (before ++ map step_written x.way) (flat_map parts_written x.way) x.of.base.id (form_in scene.types x.of.base.id) x.rest x.parts
-    (followed_written root.name x.way a before [] is) in
-    let steps_are : (before ++ map step_written x.way) ++ x.rest ≡ before ++ steps = append_assoc before (map step_written x.way) x.rest ∙ ap (λ (ys : List NameStep). before ++ ys) all.0 in
-    or_faulty_written root (path_of root (before ++ steps)) parts _ (part_value scene a x) (subst (λ (e : Expr). ValueWritten e (part_value scene a x)) (ap₂ (named root.name) steps_are all.1) value)
+    let taken = along_written scene.types of steps parts in
+    let value = value_is_written scene root.name (followed a x.way) (before ++ map step_written x.way) (front ++ flat_map parts_written x.way) x.of.base.id (form_in scene.types x.of.base.id) x.rest x.parts
+    (followed_written root.name x.way a before front is) in
+    let steps_are : (before ++ map step_written x.way) ++ x.rest ≡ before ++ steps = append_assoc before (map step_written x.way) x.rest ∙ ap (λ (ys : List NameStep). before ++ ys) taken.0 in
+    let parts_are : (front ++ flat_map parts_written x.way) ++ all_written x.parts ≡ all_written all =
+        append_assoc front (flat_map parts_written x.way) (all_written x.parts) ∙ ap (λ (ys : List Expr). front ++ ys) taken.1 ∙ whole in
+    or_faulty_written root (path_of root (before ++ steps)) all _ (part_value scene a x) (subst (λ (e : Expr). ValueWritten e (part_value scene a x)) (ap₂ (named root.name) steps_are parts_are) value)
 
 -- of a variable, or of the value that it has on entry
 variable_written : (scene : Scene) (root : CoreName) (of : Subtype) (steps : List NameStep) (parts : List CoreExpr) → erased_expr (value_of_variable scene root of (path_of root steps) parts) ≡ named root.name steps (all_written parts)
-variable_written scene root of (step.Entry ∷ steps) parts = value_along_written scene root (step.Entry ∷ []) steps parts (entry_of scene.items root) of (fold-Entry erased_step root _)
-variable_written scene root of steps parts = value_along_written scene root [] steps parts (expr.Name root) of (fold-Name erased_step root)
+variable_written scene root of (step.Entry ∷ steps) parts = value_along_written scene root (step.Entry ∷ []) steps [] parts parts (entry_of scene.items root) of (fold-Entry erased_step root _) refl
+variable_written scene root of steps parts = value_along_written scene root [] steps [] parts parts (expr.Name root) of (fold-Name erased_step root) refl
 
 -- of what is no variable
 other_written : (scene : Scene) (root : CoreName) (steps : List NameStep) (parts : List CoreExpr) → erased_expr (value_of_other scene root (path_of root steps) parts) ≡ named root.name steps (all_written parts)
@@ -164,13 +172,29 @@ other_written scene root (step.Entry ∷ []) [] = fold-Entry erased_step root _
 other_written scene root (step.Attribute designator ∷ []) [] = fold-Attribute erased_step _ designator
 other_written scene root (step.Applied place (Positional (suc zero)) ∷ []) (operand ∷ []) = fold-Applied erased_step _ place operand
 other_written scene root (step.Attribute designator ∷ step.Applied place (Positional (suc zero)) ∷ []) (operand ∷ []) = fold-Applied erased_step _ place operand
-other_written scene root (step.Qualified place ∷ []) (operand ∷ []) = fold-Applied erased_step _ place operand
+other_written scene root (step.Qualified place (aggregate.Positional (suc zero)) ∷ []) (operand ∷ []) = fold-Applied erased_step _ place operand
 other_written scene root steps parts = faulty_written root (path_of root steps) parts _
+
+-- of what begins with a type
+aggregate_steps_written : (scene : Scene) (root : CoreName) (of : Subtype) (place : Place) (form : Aggregate) (steps : List NameStep) (parts : List CoreExpr) (o : Option CoreExpr)
+    → aggregate_value root place form of.base.id (form_in scene.types of.base.id) (take (aggregate_takes form) parts) ≡ o
+    → erased_expr (value_after scene root of (path_of root (step.Qualified place form ∷ steps)) parts steps (drop (aggregate_takes form) parts) o) ≡ named root.name (step.Qualified place form ∷ steps) (all_written parts)
+aggregate_steps_written scene root of place form steps parts None is = other_written scene root (step.Qualified place form ∷ steps) parts
+aggregate_steps_written scene root of place form steps parts (Some a) is =
+    let n = aggregate_takes form in
+    value_along_written scene root (step.Qualified place form ∷ []) steps (all_written (take n parts)) parts (drop n parts) a of
+    (aggregate_is_written root place form of.base.id (form_in scene.types of.base.id) (take n parts) a is)
+    (sym (map-append erased_expr (take n parts) (drop n parts)) ∙ ap all_written (take-append-drop n parts))
+
+type_written : (scene : Scene) (root : CoreName) (of : Subtype) (steps : List NameStep) (parts : List CoreExpr) → erased_expr (value_of_type scene root of (path_of root steps) parts) ≡ named root.name steps (all_written parts)
+type_written scene root of (step.Qualified place form ∷ steps) parts = aggregate_steps_written scene root of place form steps parts _ refl
+type_written scene root of steps parts = other_written scene root steps parts
 
 -- by what the first identifier denotes
 pub value_written : (scene : Scene) (name : Identifier) (e : Option Entity) (steps : List NameStep) (parts : List CoreExpr)
     → erased_expr (value_of_path scene (record { name = name; entity = e }) (record { root = name; steps = steps }) parts) ≡ named name steps (all_written parts)
 value_written scene name (Some (entity.Variable v object)) steps parts = variable_written scene (record { name = name; entity = Some (entity.Variable v object) }) object.subtype steps parts
+value_written scene name (Some (entity.TypeName of)) steps parts = type_written scene (record { name = name; entity = Some (entity.TypeName of) }) of steps parts
 value_written scene name other steps parts = other_written scene (record { name = name; entity = other }) steps parts
 
 -- ---- targets

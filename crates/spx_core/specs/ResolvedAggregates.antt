@@ -1,5 +1,5 @@
 -- Aggregates in which each expression stands with what it is for (Ada 95 RM 4.3.1, 4.3.3).
-use Rattle.std.specs.Prelude.{ℕ, ℤ, zero, suc, pos, ◌+◌, ◌+ℤ◌, ◌==◌, int_lt, Bool, true, false, not, ◌&&◌, if◌then◌else◌, List, [], ◌∷◌, ◌++◌, map, filter, filter_map, length, take, drop, Option, Some, None, option_map, is_some, slice_get}
+use Rattle.std.specs.Prelude.{ℕ, ℤ, zero, suc, pos, ◌+◌, ◌+ℤ◌, ◌==◌, int_lt, Bool, true, false, not, ◌&&◌, if◌then◌else◌, List, [], ◌∷◌, ◌++◌, map, filter, filter_map, length, Option, Some, None, option_map, is_some, slice_get}
 use Rattle.std.specs.List.{cons_option, flat_map, list_all, list_any, range_with_len}
 use Rattle.std.specs.Str.{str_eq_ignore_ascii_case}
 use Rattle.spx_text.specs.declared.place.Place.{Place}
@@ -9,7 +9,6 @@ use Rattle.spx_tree.specs.declared.expression.ChoiceForm.{ChoiceForm}
 use Rattle.spx_tree.specs.declared.expression.ChoiceForm.TheVariants.{Single, Range}
 use Rattle.spx_tree.specs.declared.expression.ChoiceList.{ChoiceList}
 use Rattle.spx_tree.specs.declared.expression.ChoiceList.TheVariants as choice_list
-use Rattle.spx_tree.specs.Written.{aggregate_takes, choice_takes, total}
 use Rattle.spx_core.specs.declared.aggregate.Components.{Components}
 use Rattle.spx_core.specs.declared.name.CoreName.{CoreName}
 use Rattle.spx_core.specs.Places.{place_of}
@@ -47,23 +46,29 @@ pub record Association : Type 0 where
   pub choices : Option (List Choice)
   pub value : CoreExpr
 
--- the choices of these forms, which are these expressions
-abbrev pub choices_of : List ChoiceForm → List CoreExpr → List Choice
-choices_of (Single ∷ forms) (low ∷ parts) = record { low = low; high = None } ∷ choices_of forms parts
-choices_of (Range ∷ forms) (low ∷ high ∷ parts) = record { low = low; high = Some high } ∷ choices_of forms parts
-choices_of forms parts = []
+-- goes on after the choices of these forms, which are the first of these expressions
+abbrev pub after_choices : List ChoiceForm → List CoreExpr → (List Choice → List CoreExpr → Option (List Association)) → Option (List Association)
+after_choices [] parts go = go [] parts
+after_choices (Single ∷ forms) (low ∷ parts) go = after_choices forms parts (λ choices rest. go (record { low = low; high = None } ∷ choices) rest)
+after_choices (Range ∷ forms) (low ∷ high ∷ parts) go = after_choices forms parts (λ choices rest. go (record { low = low; high = Some high } ∷ choices) rest)
+after_choices forms parts go = None
 
--- an association with these choices and the first of these expressions for its value
-abbrev pub with_value : Option (List Choice) → List CoreExpr → List Association
-with_value choices [] = []
-with_value choices (value ∷ parts) = record { choices = choices; value = value } ∷ []
+-- goes on after a value, which is the first of these expressions
+abbrev pub after_value : List CoreExpr → (CoreExpr → List CoreExpr → Option (List Association)) → Option (List Association)
+after_value [] go = None
+after_value (value ∷ parts) go = go value parts
 
--- the associations that are written so, whose expressions are these in the order of the text
-abbrev pub associations : List ChoiceList → List CoreExpr → List Association
-associations [] parts = []
-associations (choice_list.Others ∷ lists) parts = with_value None parts ++ associations lists (drop 1 parts)
+-- an association before others
+abbrev pub before_others : Option (List Choice) → CoreExpr → Option (List Association) → Option (List Association)
+before_others choices value more = option_map (λ all. record { choices = choices; value = value } ∷ all) more
+
+-- the associations that are written so, if their expressions are these in the order of the text
+abbrev pub associations : List ChoiceList → List CoreExpr → Option (List Association)
+associations [] [] = Some []
+associations [] (e ∷ parts) = None
+associations (choice_list.Others ∷ lists) parts = after_value parts (λ value rest. before_others None value (associations lists rest))
 associations (choice_list.Choices forms ∷ lists) parts =
-    with_value (Some (choices_of forms parts)) (drop (total choice_takes forms) parts) ++ associations lists (drop (total choice_takes forms + 1) parts)
+    after_choices forms parts (λ choices left. after_value left (λ value rest. before_others (Some choices) value (associations lists rest)))
 
 -- the expressions of a choice
 abbrev pub bounds_of : Choice → List CoreExpr
@@ -170,26 +175,24 @@ from_position fields k (value ∷ values) = field_value fields (k ∷ []) value 
 
 -- ---- aggregates
 
-abbrev pub array_parts : (index element : Subtype) → Aggregate → List CoreExpr → Known
-array_parts index element (Positional count) parts = from_index index.first element parts
-array_parts index element (Named lists) parts = flat_map (in_array index element) (associations lists parts)
+abbrev pub array_parts : (index element : Subtype) → Aggregate → List CoreExpr → Option Known
+array_parts index element (Positional count) parts = if length parts == count then Some (from_index index.first element parts) else None
+array_parts index element (Named lists) parts = option_map (λ all. flat_map (in_array index element) all) (associations lists parts)
 
-abbrev pub record_parts : List Field → Aggregate → List CoreExpr → Known
-record_parts fields (Positional count) parts = from_position fields 0 parts
-record_parts fields (Named lists) parts = flat_map (in_record fields (chosen_fields fields (associations lists parts))) (associations lists parts)
+abbrev pub all_in_record : List Field → List Association → Known
+all_in_record fields all = flat_map (in_record fields (chosen_fields fields all)) all
+
+abbrev pub record_parts : List Field → Aggregate → List CoreExpr → Option Known
+record_parts fields (Positional count) parts = if length parts == count then Some (from_position fields 0 parts) else None
+record_parts fields (Named lists) parts = option_map (all_in_record fields) (associations lists parts)
 
 -- an aggregate of the type with this id
 abbrev pub aggregate_of : CoreName → Place → Aggregate → TypeId → Components → Known → CoreExpr
 aggregate_of name place written id components known =
     expr.Aggregate name (record { place = place; written = written; of = id; components = components; roles = map (λ (x : Role × Option CoreExpr). x.0) known }) (filter_map (λ (x : Role × Option CoreExpr). x.1) known)
 
--- the value with these expressions, if its type has parts
-abbrev pub composite_value : CoreName → Place → Aggregate → TypeId → Option TypeForm → List CoreExpr → Option CoreExpr
-composite_value name place written id (Some (Array index element)) parts = Some (aggregate_of name place written id (Elements index) (array_parts index element written parts))
-composite_value name place written id (Some (Record fields)) parts = Some (aggregate_of name place written id (Fields (length fields)) (record_parts fields written parts))
-composite_value name place written id other parts = None
-
--- where there are as many expressions as are written
+-- the value with these expressions, if its type has parts and there are as many as are written
 abbrev pub aggregate_value : CoreName → Place → Aggregate → TypeId → Option TypeForm → List CoreExpr → Option CoreExpr
-aggregate_value name place written id form parts =
-    if length parts == aggregate_takes written then composite_value name place written id form parts else None
+aggregate_value name place written id (Some (Array index element)) parts = option_map (aggregate_of name place written id (Elements index)) (array_parts index element written parts)
+aggregate_value name place written id (Some (Record fields)) parts = option_map (aggregate_of name place written id (Fields (length fields))) (record_parts fields written parts)
+aggregate_value name place written id other parts = None

@@ -173,17 +173,19 @@ value_of_other scene root path parts = by_steps path.steps parts
     by_steps (name_step.Qualified place (Aggregate.Positional (suc zero)) ∷ []) (operand ∷ []) = function_value root function_form.Qualified place operand
     by_steps steps _ = faulty_value root (fault_of_type root.entity steps) path parts
 
--- The value of a name that begins with a type: an aggregate has parts, as an object of its type.
+-- the value of these steps after an aggregate, which has parts as an object of its type; or, without one, that of another name
+abbrev pub value_after : Scene → CoreName → Subtype → Path → List CoreExpr → List NameStep → List CoreExpr → Option CoreExpr → CoreExpr
+value_after scene root subtype path parts steps left (Some a) = value_along scene root path parts a (along scene.types subtype steps left)
+value_after scene root subtype path parts steps left None = value_of_other scene root path parts
+
+-- the value of a name that begins with a type
 abbrev pub value_of_type : Scene → CoreName → Subtype → Path → List CoreExpr → CoreExpr
 value_of_type scene root subtype path parts = by_steps path.steps
   where
-    by_value : List NameStep → List CoreExpr → Option CoreExpr → CoreExpr
-    by_value steps left (Some a) = value_along scene root path parts a (along scene.types subtype steps left)
-    by_value steps left None = value_of_other scene root path parts
-
     by_steps : List NameStep → CoreExpr
     by_steps (name_step.Qualified place written ∷ steps) =
-        by_value steps (drop (aggregate_takes written) parts) (aggregate_value root place written subtype.base.id (form_in scene.types subtype.base.id) (take (aggregate_takes written) parts))
+        value_after scene root subtype path parts steps (drop (aggregate_takes written) parts)
+        (aggregate_value root place written subtype.base.id (form_in scene.types subtype.base.id) (take (aggregate_takes written) parts))
     by_steps steps = value_of_other scene root path parts
 
 -- where a value is needed
