@@ -1,5 +1,6 @@
 -- The parts that are named in what is resolved are as the table of types says.
 use Rattle.std.specs.Prelude.{option_and_then, slice_get}
+use Rattle.std.specs.Prelude.{flat_map}
 use Rattle.std.specs.List.{AllByRecursion}
 use Rattle.std.proofs.Common.{◌≡◌, ℕ, zero, suc, List, [], ◌∷◌, ◌++◌, map, Option, Some, None, option_map, refl, sym, ap, subst, ◌∙◌}
 use Rattle.spx_tree.specs.declared.expression.Expr.{Expr}
@@ -30,7 +31,7 @@ use Rattle.spx_core.specs.NamedParts.{along, form_in}
 use Rattle.spx_core.specs.Parts.{IsAsFormed, Part, an_element, a_field, field_of_form, form_at, parts_in, parts_on_way, parts_step}
 use Rattle.spx_core.specs.Regions.{Regions, denoted}
 use Rattle.spx_core.specs.ResolvedExpressions.{Scene, in_code, resolved_in, resolved_name, resolved_target, step_in_context, target_along, target_at, target_of}
-use Rattle.spx_core.proofs.Callers.Expressions.{fold-Number, fold-Name, fold-Entry, fold-Attribute, fold-Applied, fold-Parenthesized, fold-Prefix, fold-Infix, fold-InType, fold-InRange, fold-Element, fold-Selected, fold-ArrayAttribute, fold-Faulty}
+use Rattle.spx_core.proofs.Callers.Expressions.{fold-Number, fold-Name, fold-Entry, fold-Attribute, fold-Applied, fold-Parenthesized, fold-Prefix, fold-Infix, fold-InType, fold-InRange, fold-Element, fold-Selected, fold-ArrayAttribute, fold-Faulty, fold-Aggregate}
 use Rattle.spx_core.proofs.Callers.ListTests.{each_append}
 use Rattle.spx_core.proofs.ContextLaws.{parts_in_context}
 use Rattle.spx_core.proofs.NamedValues.{Closes, StepHolds, all_resolved_hold, along_holds, resolved_holds}
@@ -66,6 +67,10 @@ module _ (p : Program) (types : List TypeRow) (within : (id : TypeId) (f : TypeF
   abbrev AllFormed : List Part → Type 0
   AllFormed parts = AllByRecursion (IsAsFormed p) parts
 
+  all_formed : (parts : List CoreExpr) → AllByRecursion Formed parts → AllFormed (flat_map (λ (more : List Part). more) (map parts_in parts))
+  all_formed [] all = tt
+  all_formed (e ∷ parts) all = each_append (IsAsFormed p) (parts_in e) (flat_map (λ (more : List Part). more) (map parts_in parts)) all.0 (all_formed parts all.1)
+
   forms_keep : (regions : Regions) → Closes Formed (IsAsFormed p) types elements_formed fields_formed regions
   forms_keep regions = record {
     number = λ n place. subst AllFormed (sym (fold-Number parts_step n place)) tt;
@@ -83,6 +88,8 @@ module _ (p : Program) (types : List TypeRow) (within : (id : TypeId) (f : TypeF
     element = λ a place i x known is index. subst AllFormed (sym (fold-Element parts_step a place i x)) (known, each_append (IsAsFormed p) (parts_in a) (parts_in i) is index);
     selected = λ a field x known is. subst AllFormed (sym (fold-Selected parts_step a field x)) (known, is);
     array_attribute = λ a designator x is. subst AllFormed (sym (fold-ArrayAttribute parts_step a designator x)) tt;
+    aggregate = λ name x parts all. subst AllFormed (sym (fold-Aggregate parts_step name x parts)) (all_formed parts all);
+    contexts = λ type e is. subst AllFormed (sym (parts_in_context type e)) is;
     faulty = λ faulty. subst AllFormed (sym (fold-Faulty parts_step faulty)) tt;
   }
 

@@ -1,7 +1,7 @@
 -- What holds of all that names are resolved to: it is shown once for each form of node that resolution makes.
 use Rattle.std.specs.Prelude.{⊤, slice_get}
 use Rattle.std.specs.List.{AllByRecursion}
-use Rattle.std.proofs.Common.{◌≡◌, ℕ, zero, suc, ◌+◌, ℤ, Bool, true, false, not, if◌then◌else◌, List, [], ◌∷◌, map, Option, Some, None, option_map, refl, sym, ap, subst, ◌∙◌, add-zero, arith}
+use Rattle.std.proofs.Common.{◌≡◌, ℕ, zero, suc, ◌+◌, ℤ, Bool, true, false, not, if◌then◌else◌, List, [], ◌∷◌, map, take, drop, Option, Some, None, option_map, refl, sym, ap, subst, ◌∙◌, add-zero, arith}
 use Rattle.std.specs.Str.{str_eq_ignore_ascii_case}
 use Rattle.spx_text.specs.declared.place.Place.{Place}
 use Rattle.spx_tree.specs.declared.expression.Arguments.TheVariants.{Positional}
@@ -37,7 +37,16 @@ use Rattle.spx_core.specs.Judged.{is_attribute}
 use Rattle.spx_core.specs.NamedParts.{Along, OneStep, along, ends_at, field_named, field_step, followed, form_in, going, part_step}
 use Rattle.spx_core.specs.Parts.{Part, an_element, a_field}
 use Rattle.spx_core.specs.Regions.{Regions, denoted}
-use Rattle.spx_core.specs.ResolvedExpressions.{Scene, array_end, entry_of, expr_step, or_faulty, part_value, resolved_in, resolved_name, value_along, value_at, value_of_other, value_of_path, value_of_variable}
+use Rattle.spx_core.specs.ResolvedExpressions.{Scene, array_end, entry_of, expr_step, or_faulty, part_value, resolved_in, resolved_name, value_along, value_at, value_after, value_of_other, value_of_path, value_of_type, value_of_variable}
+use Rattle.spx_core.specs.ResolvedAggregates.{aggregate_value}
+use Rattle.spx_core.specs.Contexts.{in_context}
+use Rattle.spx_core.specs.declared.aggregate.Composition.{Composition}
+use Rattle.spx_core.specs.declared.rule.ExprType.{ExprType}
+use Rattle.spx_core.proofs.AggregateParts.{aggregate_holds}
+use Rattle.spx_text.specs.declared.place.Place.{Place}
+use Rattle.spx_tree.specs.declared.expression.Aggregate.{Aggregate}
+use Rattle.spx_tree.specs.declared.expression.Aggregate.TheVariants as aggregate
+use Rattle.spx_tree.specs.Written.{aggregate_takes}
 
 -- a field that is found is one of the record's fields, with its type
 abbrev FieldFound : TypeId → (ℕ → Option Field) → Option Selection → Type 0
@@ -56,6 +65,17 @@ field_found get id k (field ∷ fields) word at =
     by_test : (b : Bool) (later : Option Selection) → FieldFound id get later → FieldFound id get (if b then Some (record { «record» = id; position = k; field = field.subtype }) else later)
     by_test true later is = (refl, here)
     by_test false later is = is
+
+-- of the first expressions, and of those after them
+all_taken : {A : Type 0} (P : A → Type 0) (n : ℕ) (xs : List A) → AllByRecursion P xs → AllByRecursion P (take n xs)
+all_taken P zero xs all = tt
+all_taken P (suc n) [] all = tt
+all_taken P (suc n) (x ∷ xs) all = (all.0, all_taken P n xs all.1)
+
+all_left : {A : Type 0} (P : A → Type 0) (n : ℕ) (xs : List A) → AllByRecursion P xs → AllByRecursion P (drop n xs)
+all_left P zero xs all = all
+all_left P (suc n) [] all = tt
+all_left P (suc n) (x ∷ xs) all = all_left P n xs all.1
 
 -- One thing holds of expressions, and one of parts that the table says.
 module _ (P : CoreExpr → Type 0) (Known : Part → Type 0) (types : List TypeRow)
@@ -111,6 +131,8 @@ module _ (P : CoreExpr → Type 0) (Known : Part → Type 0) (types : List TypeR
     pub element : (a : CoreExpr) (place : Place) (i : CoreExpr) (x : Indexing) → Known (an_element x) → P a → P i → P (expr.Element a place i x)
     pub selected : (a : CoreExpr) (field : Identifier) (x : Selection) → Known (a_field x) → P a → P (expr.Selected a field x)
     pub array_attribute : (a : CoreExpr) (designator : Identifier) (x : ArrayEnds) → P a → P (expr.ArrayAttribute a designator x)
+    pub aggregate : (name : CoreName) (x : Composition) (parts : List CoreExpr) → AllByRecursion P parts → P (expr.Aggregate name x parts)
+    pub contexts : (type : ExprType) (e : CoreExpr) → P e → P (in_context type e)
     pub faulty : (faulty : FaultyName) → P (expr.Faulty faulty)
 
   module _ (regions : Regions) (c : Closes regions) where
@@ -163,8 +185,21 @@ module _ (P : CoreExpr → Type 0) (Known : Part → Type 0) (types : List TypeR
         other_holds word (step.Attribute designator ∷ []) [] all = c.attribute _ designator
         other_holds word (step.Applied place (Positional (suc zero)) ∷ []) (operand ∷ []) all = c.applied _ place operand all.0
         other_holds word (step.Attribute designator ∷ step.Applied place (Positional (suc zero)) ∷ []) (operand ∷ []) all = c.applied _ place operand all.0
-        other_holds word (step.Qualified place ∷ []) (operand ∷ []) all = c.applied _ place operand all.0
+        other_holds word (step.Qualified place (aggregate.Positional (suc zero)) ∷ []) (operand ∷ []) all = c.applied _ place operand all.0
         other_holds word steps parts all = c.faulty _
+
+        aggregate_steps_hold : (word : Identifier) (of : Subtype) (place : Place) (form : Aggregate) (steps : List NameStep) (parts : List CoreExpr) → AllByRecursion P parts → (o : Option CoreExpr)
+            → aggregate_value (resolved_name regions word) place form of.base.id (form_in scene.types of.base.id) (take (aggregate_takes form) parts) ≡ o
+            → P (value_after scene (resolved_name regions word) of (record { root = word; steps = step.Qualified place form ∷ steps }) parts steps (drop (aggregate_takes form) parts) o)
+        aggregate_steps_hold word of place form steps parts all None is = other_holds word (step.Qualified place form ∷ steps) parts all
+        aggregate_steps_hold word of place form steps parts all (Some a) is =
+            value_along_holds (resolved_name regions word) _ parts a (along scene.types of steps (drop (aggregate_takes form) parts))
+            (aggregate_holds P c.contexts c.aggregate (resolved_name regions word) place form of.base.id (form_in scene.types of.base.id) (take (aggregate_takes form) parts) a (all_taken P (aggregate_takes form) parts all) is)
+            (along_scene_holds of steps (drop (aggregate_takes form) parts) (all_left P (aggregate_takes form) parts all))
+
+        type_holds : (word : Identifier) (of : Subtype) (steps : List NameStep) (parts : List CoreExpr) → AllByRecursion P parts → P (value_of_type scene (resolved_name regions word) of (record { root = word; steps = steps }) parts)
+        type_holds word of (step.Qualified place form ∷ steps) parts all = aggregate_steps_hold word of place form steps parts all _ refl
+        type_holds word of steps parts all = other_holds word steps parts all
 
         root_holds : (word : Identifier) (steps : List NameStep) (parts : List CoreExpr) → AllByRecursion P parts → (o : Option Entity) → denoted regions word.text ≡ o
             → P (value_of_path scene (resolved_name regions word) (record { root = word; steps = steps }) parts)
@@ -172,10 +207,12 @@ module _ (P : CoreExpr → Type 0) (Known : Part → Type 0) (types : List TypeR
           where
             by_root : Option Entity → CoreExpr
             by_root (Some (entity.Variable v object)) = value_of_variable scene (resolved_name regions word) object.subtype (record { root = word; steps = steps }) parts
+            by_root (Some (entity.TypeName of)) = value_of_type scene (resolved_name regions word) of (record { root = word; steps = steps }) parts
             by_root other = value_of_other scene (resolved_name regions word) (record { root = word; steps = steps }) parts
 
             at_root : (e : Option Entity) → P (by_root e)
             at_root (Some (entity.Variable v object)) = variable_holds word object.subtype steps parts all
+            at_root (Some (entity.TypeName of)) = type_holds word of steps parts all
             at_root other = other_holds word steps parts all
 
         abbrev Shown : Type 0

@@ -1,6 +1,7 @@
 -- What holds of all entities that are declared in regions holds of those that names denote there.
 use Rattle.std.proofs.Common.{◌≡◌, ℕ, Bool, true, false, if◌then◌else◌, List, [], ◌∷◌, ◌++◌, Option, Some, None, map, option_map, is_some, refl, sym, ap, subst, inl, inr}
 use Rattle.std.specs.Prelude.{⊤, slice_get, unwrap_or}
+use Rattle.std.specs.Prelude.{flat_map}
 use Rattle.std.specs.List.{AllByRecursion, list_any}
 use Rattle.std.specs.Str.{str_eq_ignore_ascii_case}
 use Rattle.std.proofs.lemmas.Bool.{eqb-true, or_cases}
@@ -32,7 +33,7 @@ use Rattle.spx_core.specs.ResolvedExpressions.{Scene, in_code, resolved_in, reso
 use Rattle.spx_core.specs.DeclaredNames.{declaring, declaring_all, subtype_of}
 use Rattle.spx_core.specs.ResolvedDeclarations.{referred_subtype}
 use Rattle.spx_core.specs.Resolved.{around_body, standard_types}
-use Rattle.spx_core.proofs.Callers.Expressions.{fold-Number, fold-Name, fold-Entry, fold-Attribute, fold-Applied, fold-Parenthesized, fold-Prefix, fold-Infix, fold-InType, fold-InRange, fold-Element, fold-Selected, fold-ArrayAttribute, fold-Faulty}
+use Rattle.spx_core.proofs.Callers.Expressions.{fold-Number, fold-Name, fold-Entry, fold-Attribute, fold-Applied, fold-Parenthesized, fold-Prefix, fold-Infix, fold-InType, fold-InRange, fold-Element, fold-Selected, fold-ArrayAttribute, fold-Faulty, fold-Aggregate}
 use Rattle.spx_core.proofs.Callers.ListTests.{each_append, some_mapped}
 use Rattle.spx_core.proofs.Callers.Variables.{same_var}
 use Rattle.spx_core.proofs.ContextLaws.{reads_in_context}
@@ -182,6 +183,10 @@ module _ (T : Subtype → Type 0) (P : VarId → Object → Type 0) where
     abbrev pub ReadsKnown : CoreExpr → Type 0
     ReadsKnown e = AreKnown (names_read e)
 
+    all_known : (parts : List CoreExpr) → AllByRecursion ReadsKnown parts → AreKnown (flat_map (λ (names : List CoreName). names) (map names_read parts))
+    all_known [] all = tt
+    all_known (e ∷ parts) all = both_known (names_read e) (flat_map (λ (names : List CoreName). names) (map names_read parts)) all.0 (all_known parts all.1)
+
     forms_keep : (types : List TypeRow) → Closes ReadsKnown (λ part. ⊤) types (λ x is. tt) (λ x fields is found. tt) regions
     forms_keep types = record {
       number = λ n place. subst AreKnown (sym (fold-Number names_step n place)) tt;
@@ -197,6 +202,8 @@ module _ (T : Subtype → Type 0) (P : VarId → Object → Type 0) where
       element = λ a place i x known is index. subst AreKnown (sym (fold-Element names_step a place i x)) (both_known _ _ is index);
       selected = λ a field x known is. subst AreKnown (sym (fold-Selected names_step a field x)) is;
       array_attribute = λ a designator x is. subst AreKnown (sym (fold-ArrayAttribute names_step a designator x)) tt;
+      aggregate = λ name x parts all. subst AreKnown (sym (fold-Aggregate names_step name x parts)) (all_known parts all);
+      contexts = λ type e is. subst AreKnown (sym (reads_in_context type e)) is;
       faulty = λ faulty. subst AreKnown (sym (fold-Faulty names_step faulty)) tt;
     }
 

@@ -61,12 +61,12 @@ choices_written (Range ∷ forms) [] go all is = absurd cc
 choices_written (Range ∷ forms) (low ∷ []) go all is = absurd cc
 
 -- an association before others is the first of all
-record BeforeOthers (choices : Option (List Choice)) (value : CoreExpr) (o : Option (List Association)) (all : List Association) : Type 0 where
-  more : List Association
-  is : o ≡ Some more
-  first : all ≡ record { choices = choices; value = value } ∷ more
+pub record BeforeOthers (choices : Option (List Choice)) (value : CoreExpr) (o : Option (List Association)) (all : List Association) : Type 0 where
+  pub more : List Association
+  pub is : o ≡ Some more
+  pub first : all ≡ record { choices = choices; value = value } ∷ more
 
-first_of : (choices : Option (List Choice)) (value : CoreExpr) (o : Option (List Association)) (all : List Association) → before_others choices value o ≡ Some all → BeforeOthers choices value o all
+pub first_of : (choices : Option (List Choice)) (value : CoreExpr) (o : Option (List Association)) (all : List Association) → before_others choices value o ≡ Some all → BeforeOthers choices value o all
 first_of choices value (Some more) all is = record { more = more; is = refl; first = cc }
 first_of choices value None all is = absurd cc
 
@@ -242,16 +242,16 @@ positions_stand fields k (value ∷ values) =
 -- ---- aggregates
 
 -- the value where a test holds
-where_true : {A : Type 0} (b : Bool) (x y : A) → (if b then Some x else None) ≡ Some y → y ≡ x
+pub where_true : {A : Type 0} (b : Bool) (x y : A) → (if b then Some x else None) ≡ Some y → y ≡ x
 where_true true x y is = cc
 where_true false x y is = absurd cc
 
-record Mapped {A B : Type 0} (f : A → B) (o : Option A) (y : B) : Type 0 where
-  from : A
-  is : o ≡ Some from
-  value : y ≡ f from
+pub record Mapped {A B : Type 0} (f : A → B) (o : Option A) (y : B) : Type 0 where
+  pub from : A
+  pub is : o ≡ Some from
+  pub value : y ≡ f from
 
-mapped_from : {A B : Type 0} (f : A → B) (o : Option A) (y : B) → option_map f o ≡ Some y → Mapped f o y
+pub mapped_from : {A B : Type 0} (f : A → B) (o : Option A) (y : B) → option_map f o ≡ Some y → Mapped f o y
 mapped_from f (Some x) y is = record { from = x; is = refl; value = cc }
 mapped_from f None y is = absurd cc
 
