@@ -24,7 +24,8 @@ use Rattle.spx_core.specs.Extents.{extent}
 use Rattle.spx_core.specs.Judged.{Judged, ◌>>=◌, if_there, judged, keeps, operand_of, part_type, referred_target, referred_type}
 use Rattle.spx_core.specs.NameBreaches as broken
 use Rattle.spx_core.specs.NameBreaches.{BreaksBound, BreaksChoice, BreaksCommand, BreaksCount, HasBadChoices, IsBoundOf, assigned_type}
-use Rattle.spx_core.specs.Statements.{are_given_once, assignment, chosen, has_right_choices, judged_alternatives, judged_bounds, judged_choice, judged_choices, judged_command, judged_count, judged_heads, selected, static_at, test}
+use Rattle.spx_core.specs.Statements.{are_given_once, assignment, chosen, has_right_choices, judged_alternatives, judged_bounds, judged_choice, judged_choices, judged_command, judged_count, judged_heads, selected, test}
+use Rattle.spx_core.specs.Judged.{static_at}
 use Rattle.spx_core.specs.Types.{are_apart, cover, has_numbers, is_of, is_ordered, is_same_type, lies_in}
 use Rattle.spx_core.proofs.Elements.{in_cases, in_first, in_none, in_rest}
 use Rattle.spx_core.proofs.Judgements.{bound, by_part, by_test, each_broken, joined, kept, ok_is, passes_at}

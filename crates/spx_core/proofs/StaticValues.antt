@@ -1,5 +1,5 @@
 -- The type of a static expression has no parts.
-use Rattle.std.proofs.Common.{◌≡◌, ◌&&◌, ◌||◌, ℕ, ℤ, Bool, true, false, not, if◌then◌else◌, List, Option, Some, None, Ok, refl, sym, ap, ◌∙◌, subst, inl, inr}
+use Rattle.std.proofs.Common.{◌≡◌, ◌&&◌, ◌||◌, ℕ, ℤ, Bool, true, false, not, if◌then◌else◌, List, map, Option, Some, None, Ok, refl, sym, ap, ◌∙◌, subst, inl, inr}
 use Rattle.std.specs.Prelude.{◌⊎◌, codes}
 use Rattle.std.proofs.lemmas.Bool.{and_parts, both_ways}
 use Rattle.spx_text.specs.declared.place.Place.{Place}
@@ -26,10 +26,10 @@ use Rattle.spx_core.specs.declared.function.OperandType.TheVariants.{ValueOf}
 use Rattle.spx_core.specs.declared.function.Shift.{Shift}
 use Rattle.spx_core.specs.declared.rule.ExprType.{ExprType}
 use Rattle.spx_core.specs.declared.rule.ExprType.TheVariants.{Universal, Of}
-use Rattle.spx_core.specs.declared.rule.RuleName.TheVariants.{N3, N10, N12, N14, N18}
+use Rattle.spx_core.specs.declared.rule.RuleName.TheVariants.{N3, N10, N12, N14, N16, N18}
 use Rattle.spx_core.specs.declared.rule.Typing.{Typing}
-use Rattle.spx_core.specs.HasType.{HasType, number, name, entered, attribute_of, applied, parenthesized, converted, signed, operated, in_type, in_range, element_of, selected_of, attribute_of_array}
-use Rattle.spx_core.specs.Judged.{◌>>=◌, keeps, standing_at, value_at, function_at, has_end, attribute_function, applied_form, application, attribute, attribute_of as end_of, has_attribute, indexed, is_attribute, is_word, judged, named_object, named_type, typing}
+use Rattle.spx_core.specs.HasType.{HasType, number, name, entered, attribute_of, applied, parenthesized, converted, signed, operated, in_type, in_range, element_of, selected_of, attribute_of_array, composed_of}
+use Rattle.spx_core.specs.Judged.{has_right_components, judged_parts, ◌>>=◌, keeps, standing_at, value_at, function_at, has_end, attribute_function, applied_form, application, attribute, attribute_of as end_of, has_attribute, indexed, is_attribute, is_word, judged, named_object, named_type, typing}
 use Rattle.spx_core.specs.Types.{both_held, has_literals, has_numbers, has_parts, has_truths, is_boolean, is_held, is_typed_at, lies_in, lies_in_operand, lies_within, member_value, result_of, right_type, signed_result, three_fit, is_number, is_numeric, is_of, is_parted, is_taken, left_type, meet, met, operand_fits, operands_fit, result_type, same_class, shifted_value}
 use Rattle.spx_core.proofs.Judgements.{bound, kept, ok_is}
 use Rattle.spx_core.proofs.TypedLaws.{sound}
@@ -223,6 +223,11 @@ static_plain _ _ (operated o place a b l r t d c h) n is =
     let lies = bound (keeps N12 place (lies_in of result)) _ t held.2 in
     let same : typing of result place ≡ t = ok_is lies.2 in
     along same (result_plain o l.of r.of (kept N10 place _ fits.1))
+static_plain _ _ (composed_of c x parts typings t d h) n is =
+    let s = bound (named_type c) _ t h in
+    let k = bound (keeps N16 c.name.place (has_right_components x (map Ok typings))) _ t s.2 in
+    let p = bound (judged_parts x.roles (map Ok typings)) _ t k.2 in
+    not_static (Of s.0.base) c.name.place t (ok_is p.2) n is
 static_plain _ _ (in_type o place a type_name x t subtype d named h) n is =
     let fits = bound (keeps N10 place (is_of subtype.base x.of)) _ t h in
     let lies = bound (keeps N12 x.place (lies_in (Of subtype.base) x.value)) _ t fits.2 in
