@@ -8,6 +8,12 @@ use Rattle.spx_tree.specs.declared.expression.PrefixOp.TheVariants as sign
 use Rattle.spx_tree.specs.declared.expression.Layer.{Layer}
 use Rattle.spx_tree.specs.declared.expression.Layer.TheVariants as layer
 use Rattle.spx_tree.specs.declared.expression.Arguments.TheVariants as arguments
+use Rattle.spx_tree.specs.declared.expression.ChoiceForm.{ChoiceForm}
+use Rattle.spx_tree.specs.declared.expression.ChoiceForm.TheVariants as form
+use Rattle.spx_tree.specs.declared.expression.ChoiceList.{ChoiceList}
+use Rattle.spx_tree.specs.declared.expression.ChoiceList.TheVariants as choice_list
+use Rattle.spx_tree.specs.declared.expression.Aggregate.{Aggregate}
+use Rattle.spx_tree.specs.declared.expression.Aggregate.TheVariants as aggregate_as
 use Rattle.spx_tree.specs.declared.expression.NameStep.{NameStep}
 use Rattle.spx_tree.specs.declared.expression.NameStep.TheVariants as step
 use Rattle.spx_tree.specs.declared.expression.Path.{Path}
@@ -164,13 +170,37 @@ operand_layer sign.Not = layer.Primary
 
 -- The layers that the expressions of a name are of, in the order of the text.
 
+-- those of all items
+abbrev pub layers_of_all : {A : Type 0} → (A → List Layer) → List A → List Layer
+layers_of_all layers [] = []
+layers_of_all layers (x ∷ xs) = layers x ++ layers_of_all layers xs
+
+-- a choice has sums
+abbrev pub layers_of_choice : ChoiceForm → List Layer
+layers_of_choice form.Single = layer.Sum ∷ []
+layers_of_choice form.Range = layer.Sum ∷ layer.Sum ∷ []
+
+-- so has a list of choices
+abbrev pub layers_of_list : ChoiceList → List Layer
+layers_of_list choice_list.Others = []
+layers_of_list (choice_list.Choices forms) = layers_of_all layers_of_choice forms
+
+-- a value after choices is an expression
+abbrev pub layers_of_association : ChoiceList → List Layer
+layers_of_association choices = layers_of_list choices ++ layer.Expression ∷ []
+
+-- an aggregate has expressions of these layers
+abbrev pub layers_of_aggregate : Aggregate → List Layer
+layers_of_aggregate (aggregate_as.Positional count) = replicate count layer.Expression
+layers_of_aggregate (aggregate_as.Named lists) = layers_of_all layers_of_association lists
+
 -- one step has expressions of these layers
 abbrev pub layers_of_step : NameStep → List Layer
 layers_of_step (step.Selected selector) = []
 layers_of_step (step.Attribute designator) = []
 layers_of_step (step.Applied place (arguments.Positional count)) = replicate count layer.Expression
 layers_of_step (step.Applied place (arguments.Named names)) = map (λ name. layer.Expression) names
-layers_of_step (step.Qualified place) = layer.Expression ∷ []
+layers_of_step (step.Qualified place aggregate) = layers_of_aggregate aggregate
 layers_of_step step.Entry = []
 
 -- so have all steps
@@ -178,13 +208,23 @@ abbrev pub layers_of : List NameStep → List Layer
 layers_of [] = []
 layers_of (s ∷ steps) = layers_of_step s ++ layers_of steps
 
+-- one choice or more in each list of them
+abbrev pub IsChoiceList : ChoiceList → Type 0
+IsChoiceList choice_list.Others = ⊤
+IsChoiceList (choice_list.Choices forms) = OneOrMore (λ form. ⊤) forms
+
+-- one expression or more
+abbrev pub IsAggregate : Aggregate → Type 0
+IsAggregate (aggregate_as.Positional count) = 0 < count
+IsAggregate (aggregate_as.Named lists) = OneOrMore IsChoiceList lists
+
 -- one expression or more in each pair of parentheses
 abbrev pub IsStep : NameStep → Type 0
 IsStep (step.Selected selector) = ⊤
 IsStep (step.Attribute designator) = ⊤
 IsStep (step.Applied place (arguments.Positional count)) = 0 < count
 IsStep (step.Applied place (arguments.Named names)) = IsIdentifiers names
-IsStep (step.Qualified place) = ⊤
+IsStep (step.Qualified place aggregate) = IsAggregate aggregate
 IsStep step.Entry = ⊤
 
 -- expressions of these layers, one each
@@ -194,8 +234,10 @@ AreOf Inner (l ∷ layers) (e ∷ parts) = Inner l e × AreOf Inner layers parts
 AreOf Inner [] (e ∷ parts) = ⊥
 AreOf Inner (l ∷ layers) [] = ⊥
 
--- identifier {step}: "." identifier | "'" identifier | "(" arguments ")" | "'" "(" expression ")" | "~", which is a lexeme of annotation text only,
--- where the arguments are expression {"," expression} | identifier "=>" expression {"," identifier "=>" expression}; and the expressions of the steps
+-- identifier {step}: "." identifier | "'" identifier | "(" arguments ")" | "'" "(" aggregate ")" | "~", which is a lexeme of annotation text only, where
+-- arguments = expression {"," expression} | identifier "=>" expression {"," identifier "=>" expression}
+-- aggregate = expression {"," expression} | association {"," association};  association = ("others" | choice {"|" choice}) "=>" expression
+-- choice = sum [".." sum]; and the expressions of the steps
 abbrev pub IsPath : {A : Type 0} → (Layer → A → Type 0) → Path → List A → Type 0
 IsPath Inner path parts = Each IsStep path.steps × AreOf Inner (layers_of path.steps) parts
 

@@ -1,5 +1,5 @@
 -- The forms with which a tree is written: one case for each production.
-use Rattle.std.specs.Prelude.{ℕ, Bool, true, false, List, [], ◌∷◌, ◌++◌, map, length, take, drop, Option, Some, None}
+use Rattle.std.specs.Prelude.{ℕ, ◌+◌, Bool, true, false, List, [], ◌∷◌, ◌++◌, map, length, take, drop, Option, Some, None}
 use Rattle.spx_text.specs.declared.place.Place.{Place}
 use Rattle.spx_tree.specs.declared.token.Kind.{Kind}
 use Rattle.spx_tree.specs.declared.token.Kind.TheVariants as k
@@ -12,6 +12,12 @@ use Rattle.spx_tree.specs.declared.expression.MemberOp.{MemberOp}
 use Rattle.spx_tree.specs.declared.expression.MemberOp.TheVariants as member
 use Rattle.spx_tree.specs.declared.expression.Arguments.{Arguments}
 use Rattle.spx_tree.specs.declared.expression.Arguments.TheVariants as arguments
+use Rattle.spx_tree.specs.declared.expression.ChoiceForm.{ChoiceForm}
+use Rattle.spx_tree.specs.declared.expression.ChoiceForm.TheVariants as form
+use Rattle.spx_tree.specs.declared.expression.ChoiceList.{ChoiceList}
+use Rattle.spx_tree.specs.declared.expression.ChoiceList.TheVariants as choice_list
+use Rattle.spx_tree.specs.declared.expression.Aggregate.{Aggregate}
+use Rattle.spx_tree.specs.declared.expression.Aggregate.TheVariants as aggregate_as
 use Rattle.spx_tree.specs.declared.expression.NameStep.{NameStep}
 use Rattle.spx_tree.specs.declared.expression.NameStep.TheVariants as step
 use Rattle.spx_tree.specs.declared.expression.Path.{Path}
@@ -133,13 +139,42 @@ sign_kind sign.Not = k.Not
 
 -- Names. The expressions of a name are written already, in the order of the text, and each step takes its own.
 
+-- how many expressions all items have
+abbrev pub total : {A : Type 0} → (A → ℕ) → List A → ℕ
+total count [] = 0
+total count (x ∷ xs) = count x + total count xs
+
+-- what each item is written with: it takes its own expressions
+abbrev pub pieces : {A : Type 0} → (A → ℕ) → (A → List (List Form) → List Form) → List A → List (List Form) → List (List Form)
+pieces count write [] parts = []
+pieces count write (x ∷ xs) parts = write x (take (count x) parts) ∷ pieces count write xs (drop (count x) parts)
+
+-- how many expressions a choice has
+abbrev pub choice_takes : ChoiceForm → ℕ
+choice_takes form.Single = 1
+choice_takes form.Range = 2
+
+-- how many a list of choices has
+abbrev pub list_takes : ChoiceList → ℕ
+list_takes choice_list.Others = 0
+list_takes (choice_list.Choices forms) = total choice_takes forms
+
+-- how many they have with the value after them
+abbrev pub association_takes : ChoiceList → ℕ
+association_takes choices = list_takes choices + 1
+
+-- how many an aggregate has
+abbrev pub aggregate_takes : Aggregate → ℕ
+aggregate_takes (aggregate_as.Positional count) = count
+aggregate_takes (aggregate_as.Named lists) = total association_takes lists
+
 -- how many expressions a step has
 abbrev pub takes : NameStep → ℕ
 takes (step.Selected selector) = 0
 takes (step.Attribute designator) = 0
 takes (step.Applied place (arguments.Positional count)) = count
 takes (step.Applied place (arguments.Named names)) = length names
-takes (step.Qualified place) = 1
+takes (step.Qualified place aggregate) = aggregate_takes aggregate
 takes step.Entry = 0
 
 -- an expression that is written
@@ -157,12 +192,32 @@ abbrev pub written_arguments : Bool → Arguments → List (List Form) → List 
 written_arguments marked (arguments.Positional count) parts = separated (bare marked k.Comma) same_forms parts
 written_arguments marked (arguments.Named names) parts = separated (bare marked k.Comma) same_forms (named_parts marked names parts)
 
--- "." identifier | "'" identifier | "(" arguments ")" | "'" "(" expression ")" | "~"
+-- expression [".." expression]
+abbrev pub written_form : Bool → ChoiceForm → List (List Form) → List Form
+written_form marked form.Single parts = joined parts
+written_form marked form.Range parts = separated (bare marked k.DoubleDot) same_forms parts
+
+-- "others" | choice {"|" choice}
+abbrev pub written_list : Bool → ChoiceList → List (List Form) → List Form
+written_list marked choice_list.Others parts = bare marked k.Others ∷ []
+written_list marked (choice_list.Choices forms) parts = separated (bare marked k.Bar) same_forms (pieces choice_takes (written_form marked) forms parts)
+
+-- choices "=>" expression
+abbrev pub written_association : Bool → ChoiceList → List (List Form) → List Form
+written_association marked choices parts = written_list marked choices (take (list_takes choices) parts) ++ bare marked k.Arrow ∷ joined (drop (list_takes choices) parts)
+
+-- expression {"," expression} | association {"," association}
+abbrev pub written_aggregate : Bool → Aggregate → List (List Form) → List Form
+written_aggregate marked (aggregate_as.Positional count) parts = separated (bare marked k.Comma) same_forms parts
+written_aggregate marked (aggregate_as.Named lists) parts = separated (bare marked k.Comma) same_forms (pieces association_takes (written_association marked) lists parts)
+
+-- "." identifier | "'" identifier | "(" arguments ")" | "'" "(" aggregate ")" | "~"
 abbrev pub written_step : Bool → NameStep → List (List Form) → List Form
 written_step marked (step.Selected selector) parts = bare marked k.Dot ∷ named marked selector ∷ []
 written_step marked (step.Attribute designator) parts = bare marked k.Apostrophe ∷ named marked designator ∷ []
 written_step marked (step.Applied place args) parts = placed marked k.LeftParenthesis place ∷ (written_arguments marked args parts ++ bare marked k.RightParenthesis ∷ [])
-written_step marked (step.Qualified place) parts = bare marked k.Apostrophe ∷ placed marked k.LeftParenthesis place ∷ (joined parts ++ bare marked k.RightParenthesis ∷ [])
+written_step marked (step.Qualified place aggregate) parts =
+    bare marked k.Apostrophe ∷ placed marked k.LeftParenthesis place ∷ (written_aggregate marked aggregate parts ++ bare marked k.RightParenthesis ∷ [])
 written_step marked step.Entry parts = bare marked k.Tilde ∷ []
 
 -- {step}

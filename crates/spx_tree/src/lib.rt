@@ -18,8 +18,8 @@ mod token;
 pub use annotation::{Derives, DerivesItem, Exports, Imports, Predicate};
 pub use declaration::{Decl, FieldDecl, Range, TypeDef};
 pub use expression::{
-    Arguments, Expr, Identifier, InfixOp, Layer, MemberOp, Name, NameStep, Path, PrefixOp,
-    copy_identifiers,
+    Aggregate, Arguments, ChoiceForm, ChoiceList, Expr, Identifier, InfixOp, Layer, MemberOp, Name,
+    NameStep, Path, PrefixOp, copy_identifiers,
 };
 pub use laws::{one_spelling, one_stop};
 pub use statement::{Alternative, Arm, AssertionKind, Choice, Closing, Count, Scheme, Stmt};
