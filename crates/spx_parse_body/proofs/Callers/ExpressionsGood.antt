@@ -46,7 +46,7 @@ use Rattle.spx_cursor.specs.Operators.{sign_of, abs_or_not, power_of, relator_of
 use Rattle.spx_parse_body.specs.Expressions.{is_sum, no_items, with_item, group_step, single_choice, range_choice, with_value, one_aggregate, choice_by, choice_after, choice, more_choices, choices_after, component_after, others_after, component_by, component, more_components, named_aggregate, positional_aggregate, chosen_by, aggregate_by, aggregate_of, aggregate_after, aggregate, leaf, enclosed, prefixed, joined, in_type, in_range, plain_name, identifier_in, literal, no_parts, with_part, with_named, one_part, all_named, root_name, with_step, name_alone, step_of, in_parentheses, part_step, more_parts, association, named_part, named_step, more_named, positional, named, named_by, arguments_by, arguments, selection, application, qualification, attribute, quotation_by, quotation, entry, step_read, name_step_by, name_step, name_steps, tall_name, name_primary, primary_by, primary, operated, joined_by, power_by, power, factor_by, factor, step_by, chain_step, chained, term, signed_by, signed, sum, type_by, member_by, member, inside, outside, relation_by, relation, combined, opening_by, opening, combination_by, combination, connection_by, connection, read, below, at_layer, name, expression, predicate, expression_at, predicate_after, simple_expression, expression_below, simple_expression_below, IsExprAt}
 use Rattle.spx_parse_body.proofs.Callers.Heights.{tops, height, name_height, Layered, IsUpTo, IsPart, Is, enclosed_is, prefixed_is, infix_is, in_type_is, in_range_is, number_is, name_is, infix_has, of_layered, parts_within}
 use Rattle.spx_parse_body.proofs.Callers.Names.{choice_length, association_length, spelled, IsTall, text_of, name_text, spelled_name, IsTallName, root_fit, step_text, step_fit, plain_is, alone_text, spelled_parts, spelled_named, spelled_association, IsParts, AreNamed, more_part_text, more_part_fit, first_part_text, first_part_fit, more_named_text, more_named_fit, first_named_text, first_named_fit, spelled_arguments, AreArguments, positional_fit, named_fit, one_fit}
-use Rattle.spx_parse_body.proofs.Callers.Groups.{sum_tall, Unasked, FitsChoice, FitChoices, spelled_choice, spelled_choices, single_text, range_text, single_fit, range_fit, FitsComponent, FitComponents, spelled_component, spelled_components, others_text, component_text, others_fit, component_fit, spelled_aggregate, FitsAggregate, named_aggregate_fit, positional_aggregate_fit, one_aggregate_fit}
+use Rattle.spx_parse_body.proofs.Callers.Groups.{sum_tall, Unasked, FitsChoice, FitChoices, spelled_choice, spelled_choices, single_text, both_text, single_fit, both_fit, FitsComponent, FitComponents, spelled_component, spelled_components, others_text, component_text, others_fit, component_fit, spelled_aggregate, FitsAggregate, named_aggregate_fit, positional_aggregate_fit, one_aggregate_fit}
 use Rattle.spx_parse_body.proofs.Callers.GroupsGood.{group_shrinks, group_passes, group_starts, first_good}
 use Rattle.spx_parse_body.proofs.Callers.Lawful.{Ends, Any, Sees, Always, just, ends_here}
 use Rattle.spx_parse_body.proofs.Callers.Loops.{Shrinks}
@@ -305,16 +305,16 @@ module _ (marked : Bool) (below below' : Layer → Reader Tall) (levels : ℕ) (
   abbrev IsLow : Tall → Type 0
   IsLow low = IsTall (levels - 1) layer.Sum low
 
-  range_starts : {P : Type 0} (low : Tall)
+  both_starts : {P : Type 0} (low : Tall)
       → Starts (0 < levels) (P × IsLow low) (spelled_choice marked) (FitsChoice levels) (spelled marked low) (Sees (peek marked) (Some k.DoubleDot)) (choice_by marked below levels low (Some k.DoubleDot)) (choice_by marked below' (suc levels) low (Some k.DoubleDot))
-  range_starts low =
+  both_starts low =
       starts_bind (starts_expect marked k.DoubleDot (λ fs here. here) refl) (λ u.
       good_bind (good_given (λ l. l) (λ l w. tt) (good layer.Sum)) (λ high.
-      good_pure (range_choice low high) (λ l w. range_text marked low high) (λ l w. range_fit levels l low high w.0.0.1 w.1)))
+      good_pure (range_choice low high) (λ l w. both_text marked low high) (λ l w. both_fit levels l low high w.0.0.1 w.1)))
 
   choice_case : {P : Type 0} (low : Tall) (kind : Option Kind)
       → Case (0 < levels) (P × IsLow low) (spelled_choice marked) (FitsChoice levels) (spelled marked low) (Sees (peek marked) kind) (single_choice low) (choice_by marked below levels low kind) (choice_by marked below' (suc levels) low kind)
-  choice_case low (Some k.DoubleDot) = present (range_starts low)
+  choice_case low (Some k.DoubleDot) = present (both_starts low)
   choice_case low _ = absent refl refl (λ l w. single_text marked low) (λ l w. single_fit levels l low w.1)
 
   choice_after_good : {P : Type 0} (low : Tall) → Good (0 < levels) (P × IsLow low) (spelled_choice marked) (FitsChoice levels) (spelled marked low) Any (choice_after marked below levels low) (choice_after marked below' (suc levels) low)
@@ -329,7 +329,7 @@ module _ (marked : Bool) (below below' : Layer → Reader Tall) (levels : ℕ) (
   unfolding choice_after
   choice_range {P} low =
       starts_choose (peek marked) (λ t xs ys. refl) (choice_by marked below levels low) (choice_by marked below' (suc levels) low) (choice_after_good low)
-      (λ fs here. subst (λ (kind : Option Kind). Starts (0 < levels) (P × IsLow low) (spelled_choice marked) (FitsChoice levels) (spelled marked low) (Sees (peek marked) kind) (choice_by marked below levels low kind) (choice_by marked below' (suc levels) low kind)) (sym here) (range_starts low))
+      (λ fs here. subst (λ (kind : Option Kind). Starts (0 < levels) (P × IsLow low) (spelled_choice marked) (FitsChoice levels) (spelled marked low) (Sees (peek marked) kind) (choice_by marked below levels low kind) (choice_by marked below' (suc levels) low kind)) (sym here) (both_starts low))
 
   choice_good : {P : Type 0} → Good (0 < levels) P (spelled_choice marked) (FitsChoice levels) [] Any (choice marked below levels) (choice marked below' (suc levels))
   unfolding choice
@@ -405,7 +405,7 @@ module _ (marked : Bool) (below below' : Layer → Reader Tall) (levels : ℕ) (
 
   component_good : {P : Type 0} → Good (0 < levels) P (spelled_component marked) (FitsComponent levels) [] Any (component marked below levels) (component marked below' (suc levels))
   unfolding component
-  component_good = good_bind others_good component_case
+  component_good {P} = good_bind (others_good {P = P}) (λ others. component_case {P = P × IfThere Always others} others)
 
   pub components_shrink : 0 < levels → Shrinks (sees marked k.Comma) (group_step marked k.Comma (component marked below levels))
   components_shrink some = group_shrinks marked k.Comma refl association_takes (written_association marked) IsChoiceList layers_of_association association_length levels component_good some
@@ -456,7 +456,7 @@ module _ (marked : Bool) (below below' : Layer → Reader Tall) (levels : ℕ) (
 
   aggregate_good : {P : Type 0} → Good (0 < levels) P (spelled_aggregate marked) (FitsAggregate levels) [] Any (aggregate marked below levels) (aggregate marked below' (suc levels))
   unfolding aggregate
-  aggregate_good = good_bind others_good aggregate_after_good
+  aggregate_good {P} = good_bind (others_good {P = P}) (λ others. aggregate_after_good {P = P × IfThere Always others} others)
 
   -- ---- names
 

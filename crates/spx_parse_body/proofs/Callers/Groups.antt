@@ -16,7 +16,7 @@ use Rattle.spx_tree.specs.declared.expression.Identifier.{Identifier}
 use Rattle.spx_tree.specs.declared.expression.Expr.{Expr}
 use Rattle.spx_tree.specs.Form.{Form, bare}
 use Rattle.spx_tree.specs.Written.{joined, following, separated, total, pieces, choice_takes, list_takes, association_takes, same_forms, written_form, written_list, written_association, written_aggregate, written_expr}
-use Rattle.spx_tree.specs.Grammar.{OneOrMore, rank, layers_of_all, layers_of_choice, layers_of_list, layers_of_association, layers_of_aggregate, IsChoiceList, IsAggregate, AreOf}
+use Rattle.spx_tree.specs.Grammar.{OneOrMore, rank, layer_in, layers_of_all, layers_of_choice, layers_of_list, layers_of_association, layers_of_aggregate, IsChoiceList, IsAggregate, AreOf}
 use Rattle.spx_parse_body.specs.declared.tall.Tall.{Tall}
 use Rattle.spx_parse_body.specs.declared.names.Parts.{Parts}
 use Rattle.spx_parse_body.specs.Expressions.{up_to_sum, is_sum, no_parts, with_part, both_parts, no_items, with_item, single_choice, range_choice, with_value, one_aggregate}
@@ -42,7 +42,7 @@ sum_true layer.Sum h = refl
 sum_true _ h = absurd (omega arith)
 
 pub sum_tall : (levels : ℕ) (t : Tall) → is_sum t.expr ≡ true → IsTall levels layer.Expression t → IsTall levels layer.Sum t
-sum_tall levels t e f = record { measured = f.measured; low = f.low; layered = f.layered; of_layer = sum_low _ e }
+sum_tall levels t e f = record { measured = f.measured; low = f.low; layered = f.layered; of_layer = sum_low (layer_in t.expr) e }
 
 -- ---- expressions
 
@@ -171,16 +171,16 @@ spelled_choices marked s = spelled_items marked k.Bar choice_takes (written_form
 pub single_text : (marked : Bool) (low : Tall) → spelled marked low ≡ spelled_choice marked (single_choice low)
 single_text marked low = sym (append-nil (spelled marked low))
 
-pub range_text : (marked : Bool) (low high : Tall) → (spelled marked low ++ bare marked k.DoubleDot ∷ []) ++ spelled marked high ≡ spelled_choice marked (range_choice low high)
-range_text marked low high =
+pub both_text : (marked : Bool) (low high : Tall) → (spelled marked low ++ bare marked k.DoubleDot ∷ []) ++ spelled marked high ≡ spelled_choice marked (range_choice low high)
+both_text marked low high =
     append_assoc (spelled marked low) (bare marked k.DoubleDot ∷ []) (spelled marked high) ∙ ap (λ (us : List Form). spelled marked low ++ bare marked k.DoubleDot ∷ us) (sym (append-nil (spelled marked high)))
 
 module _ (levels : ℕ) (some : 0 < levels) where
   pub single_fit : (low : Tall) → IsTall (levels - 1) layer.Sum low → FitsChoice levels (single_choice low)
   single_fit low f = record { fit = tt; parts = part_added levels some [] layer.Sum no_parts low (no_parts_fit levels) f }
 
-  pub range_fit : (low high : Tall) → IsTall (levels - 1) layer.Sum low → IsTall (levels - 1) layer.Sum high → FitsChoice levels (range_choice low high)
-  range_fit low high f g =
+  pub both_fit : (low high : Tall) → IsTall (levels - 1) layer.Sum low → IsTall (levels - 1) layer.Sum high → FitsChoice levels (range_choice low high)
+  both_fit low high f g =
       record { fit = tt; parts = part_added levels some (layer.Sum ∷ []) layer.Sum (with_part no_parts low) high (part_added levels some [] layer.Sum no_parts low (no_parts_fit levels) f) g }
 
 -- ---- associations

@@ -21,7 +21,7 @@ use Rattle.spx_parse_body.proofs.Callers.Reaches.{Reaches, reaches_bind, reaches
 abbrev items_from : {A : Type 0} → List A × Parts → List A → List Expr → List A × Parts
 items_from s xs es = (s.0 ++ xs, record { names = s.1.names; exprs = s.1.exprs ++ es; height = max s.1.height (tops (map height es)) })
 
-pairs_are : {A B : Type 0} (a c : A) (b d : B) → a ≡ c → b ≡ d → (a, b) ≡ (c, d)
+pairs_are : {A B : Type 0} (a c : A) (b d : B) → a ≡ c → b ≡ d → ◌≡◌ {A = A × B} (a, b) (c, d)
 pairs_are a c b d e f = cc
 
 items_end : {A : Type 0} (s : List A × Parts) → s ≡ items_from s [] []
