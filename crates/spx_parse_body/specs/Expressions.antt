@@ -153,8 +153,8 @@ with_item found x = (found.0 ++ x.0 ∷ [], both_parts found.1 x.1)
 
 -- a separator and one choice or association more
 abbrev pub group_step : {A : Type 0} → Bool → Kind → Reader (A × Parts) → List A × Parts → Bool → Option (Reader (List A × Parts))
-group_step marked separator item found false = None
-group_step marked separator item found true = Some ((expect marked separator >> item) >>= λ x. pure (with_item found x))
+group_step marked sep item found false = None
+group_step marked sep item found true = Some ((expect marked sep >> item) >>= λ x. pure (with_item found x))
 
 -- a choice of one expression, and this
 abbrev pub single_choice : Tall → ChoiceForm × Parts
