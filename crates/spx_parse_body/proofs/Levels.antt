@@ -17,7 +17,7 @@ use Rattle.spx_tree.specs.Written.{program}
 use Rattle.spx_tree.specs.Grammar.{layer_before}
 use Rattle.spx_tree.specs.Goes.{Fault, TooDeep}
 use Rattle.spx_parse_body.specs.declared.tall.Tall.{Tall}
-use Rattle.spx_cursor.specs.Reading.{Outcome, Reader, and_then, ◌>>=◌, ◌>>◌, pure, peek, sees, expect, expect_place, identifier, deeper, turn, loop}
+use Rattle.spx_cursor.specs.Reading.{Outcome, Reader, and_then, ◌>>=◌, ◌>>◌, pure, peek, sees, expect, expect_place, deeper, turn, loop}
 use Rattle.spx_cursor.specs.declared.operators.Chain.{Chain}
 use Rattle.spx_cursor.specs.Operators.{goes_on}
 use Rattle.spx_parse_body.specs.declared.names.Parts.{Parts}

@@ -1,7 +1,6 @@
 -- The readers of names and expressions keep the laws of readers.
 use Rattle.std.specs.Prelude.{⊤}
 use Rattle.std.proofs.Common.{◌≡◌, inl, inr, ℕ, zero, suc, ◌+◌, ◌-◌, ◌≤◌, ◌<◌, max, Bool, true, false, List, [], ◌∷◌, ◌++◌, map, length, Option, Some, None, Ok, Err, refl, sym, ap, ap₂, subst, ◌∙◌, append_assoc, arith}
-use Rattle.std.proofs.lemmas.List.{append-nil}
 use Rattle.spx_text.specs.declared.place.Place.{Place}
 use Rattle.spx_tree.specs.declared.token.Kind.{Kind}
 use Rattle.spx_tree.specs.declared.token.Kind.TheVariants as k
@@ -23,15 +22,14 @@ use Rattle.spx_tree.specs.declared.expression.Aggregate.TheVariants as aggregate
 use Rattle.spx_tree.specs.declared.expression.NameStep.TheVariants as step
 use Rattle.spx_tree.specs.declared.expression.Path.{Path}
 use Rattle.spx_tree.specs.declared.expression.Name.{Name}
-use Rattle.spx_tree.specs.declared.expression.Expr.{Expr, Expr-F, out-Expr}
+use Rattle.spx_tree.specs.declared.expression.Expr.{Expr, Expr-F}
 use Rattle.spx_tree.specs.declared.expression.Expr.TheVariants as expr
-use Rattle.spx_tree.specs.declared.expression.Expr.TheVariants.{outs-Number, outs-Name, outs-Parenthesized, outs-Prefix, outs-Infix, outs-InType, outs-InRange}
+use Rattle.spx_tree.specs.declared.expression.Expr.TheVariants.{outs-Number, outs-Parenthesized, outs-Prefix, outs-Infix, outs-InType, outs-InRange}
 use Rattle.spx_tree.specs.Form.{Form, ItsPlace, keeps, bare, placed}
 use Rattle.spx_tree.specs.Form.{named as named_form}
 use Rattle.spx_tree.specs.Goes.{Expected}
 use Rattle.spx_tree.specs.Written.{annotation, optional, choice_takes, association_takes, written_form, written_association, written_at, sign_kind, operator_kind, second_word, written_operator, written_member, written_path, written_name, written_expr}
-use Rattle.spx_tree.specs.Grammar.{IfThere, IsChoiceList, layers_of_choice, layers_of_association, layer_of, layer_before, layer_in, rank, right_layer, operand_layer, FitsLeft, LeftFits, layers_of, IsName, OfLayer, IsExpr, IsCondition, IsPredicate}
-use Rattle.spx_tree.proofs.WrittenLevels.{written_expr_level, spelled_expr}
+use Rattle.spx_tree.specs.Grammar.{IfThere, IsChoiceList, layers_of_choice, layers_of_association, layer_of, layer_before, rank, right_layer, operand_layer, FitsLeft, LeftFits, layers_of, IsName, OfLayer, IsExpr, IsCondition, IsPredicate}
 use Rattle.spx_parse_body.specs.declared.tall.Tall.{Tall}
 use Rattle.spx_parse_body.specs.declared.names.Parts.{Parts}
 use Rattle.spx_parse_body.specs.declared.names.TallName.{TallName}
@@ -44,9 +42,9 @@ use Rattle.spx_cursor.specs.declared.operators.Relator.TheVariants as relators
 use Rattle.spx_cursor.specs.Reading.{Reader, ◌>>=◌, ◌>>◌, pure, refuse, peek, is_kind, sees, expect, taking, if_seen}
 use Rattle.spx_cursor.specs.Operators.{sign_of, abs_or_not, power_of, relator_of, logical, connective_of, last_layer, short_circuit, goes_on, second, whole_by, whole_operator}
 use Rattle.spx_parse_body.specs.Expressions.{is_sum, no_items, with_item, group_step, single_choice, range_choice, with_value, one_aggregate, choice_by, choice_after, choice, more_choices, choices_after, component_after, others_after, component_by, component, more_components, named_aggregate, positional_aggregate, chosen_by, aggregate_by, aggregate_of, aggregate_after, aggregate, leaf, enclosed, prefixed, joined, in_type, in_range, plain_name, identifier_in, literal, no_parts, with_part, with_named, one_part, all_named, root_name, with_step, name_alone, step_of, in_parentheses, part_step, more_parts, association, named_part, named_step, more_named, positional, named, named_by, arguments_by, arguments, selection, application, qualification, attribute, quotation_by, quotation, entry, step_read, name_step_by, name_step, name_steps, tall_name, name_primary, primary_by, primary, operated, joined_by, power_by, power, factor_by, factor, step_by, chain_step, chained, term, signed_by, signed, sum, type_by, member_by, member, inside, outside, relation_by, relation, combined, opening_by, opening, combination_by, combination, connection_by, connection, read, below, at_layer, name, expression, predicate, expression_at, predicate_after, simple_expression, expression_below, simple_expression_below, IsExprAt}
-use Rattle.spx_parse_body.proofs.Callers.Heights.{tops, height, name_height, Layered, IsUpTo, IsPart, Is, enclosed_is, prefixed_is, infix_is, in_type_is, in_range_is, number_is, name_is, infix_has, of_layered, parts_within}
+use Rattle.spx_parse_body.proofs.Callers.Heights.{tops, height, name_height, Layered, Is, enclosed_is, prefixed_is, infix_is, in_type_is, in_range_is, number_is, name_is, infix_has, of_layered, parts_within}
 use Rattle.spx_parse_body.proofs.Callers.Names.{choice_length, association_length, spelled, IsTall, text_of, name_text, spelled_name, IsTallName, root_fit, step_text, step_fit, plain_is, alone_text, spelled_parts, spelled_named, spelled_association, IsParts, AreNamed, more_part_text, more_part_fit, first_part_text, first_part_fit, more_named_text, more_named_fit, first_named_text, first_named_fit, spelled_arguments, AreArguments, positional_fit, named_fit, one_fit}
-use Rattle.spx_parse_body.proofs.Callers.Groups.{sum_tall, Unasked, FitsChoice, FitChoices, spelled_choice, spelled_choices, single_text, both_text, single_fit, both_fit, FitsComponent, FitComponents, spelled_component, spelled_components, others_text, component_text, others_fit, component_fit, spelled_aggregate, FitsAggregate, named_aggregate_fit, positional_aggregate_fit, one_aggregate_fit}
+use Rattle.spx_parse_body.proofs.Callers.Groups.{sum_tall, Unasked, FitsChoice, FitChoices, spelled_choice, spelled_choices, single_text, both_text, single_fit, both_fit, FitsComponent, spelled_component, others_text, component_text, others_fit, component_fit, spelled_aggregate, FitsAggregate, named_aggregate_fit, positional_aggregate_fit, one_aggregate_fit}
 use Rattle.spx_parse_body.proofs.Callers.GroupsGood.{group_shrinks, group_passes, group_starts, first_good}
 use Rattle.spx_parse_body.proofs.Callers.Lawful.{Ends, Any, Sees, Always, just, ends_here}
 use Rattle.spx_parse_body.proofs.Callers.Loops.{Shrinks}

@@ -1,5 +1,5 @@
 -- The forms of a name or an expression are read as that, whatever stands after them that does not go on with it.
-use Rattle.std.proofs.Common.{◌≡◌, ◌⊎◌, inl, inr, ℕ, zero, suc, ◌+◌, ◌-◌, ◌≤◌, ◌<◌, max, Bool, true, false, List, [], ◌∷◌, ◌++◌, map, length, Option, Some, None, Ok, refl, sym, ap, ap₂, subst, ◌∙◌, append_assoc, arith, ℤ}
+use Rattle.std.proofs.Common.{◌≡◌, ◌⊎◌, inl, inr, ℕ, zero, suc, ◌+◌, ◌-◌, ◌≤◌, ◌<◌, max, Bool, List, [], ◌∷◌, ◌++◌, map, Option, Some, None, Ok, refl, sym, ap, subst, ◌∙◌, append_assoc, arith, ℤ}
 use Rattle.spx_text.specs.declared.place.Place.{Place}
 use Rattle.spx_tree.specs.declared.token.Kind.{Kind}
 use Rattle.spx_tree.specs.declared.token.Kind.TheVariants as k
@@ -13,10 +13,10 @@ use Rattle.spx_tree.specs.declared.expression.Layer.{Layer}
 use Rattle.spx_tree.specs.declared.expression.Layer.TheVariants as layer
 use Rattle.spx_tree.specs.declared.expression.Path.{Path}
 use Rattle.spx_tree.specs.declared.expression.Name.{Name}
-use Rattle.spx_tree.specs.declared.expression.Expr.{Expr, Expr-F, out-Expr, map-Expr, fold-Expr, fold_out-Expr}
+use Rattle.spx_tree.specs.declared.expression.Expr.{Expr, Expr-F, out-Expr}
 use Rattle.spx_tree.specs.declared.expression.Expr.TheVariants as expr
 use Rattle.spx_tree.specs.declared.expression.Expr.TheVariants.{outs-Number, outs-Name, outs-Parenthesized, outs-Prefix, outs-Infix, outs-InType, outs-InRange}
-use Rattle.spx_tree.specs.Form.{Form, Kept, Nothing, Where, Spelled, Valued, placed, bare, named}
+use Rattle.spx_tree.specs.Form.{Form, Nothing, Where, Spelled, Valued, placed, bare}
 use Rattle.spx_tree.specs.declared.annotation.Predicate.{Predicate}
 use Rattle.spx_tree.specs.Written.{annotation, written_at, sign_kind, operator_kind, second_word, written_operator, written_member, written_steps, written_path, written_name, written_expr}
 use Rattle.spx_tree.specs.Grammar.{layer_of, layer_before, layer_in, rank, right_layer, operand_layer, IsOperation, HasOperator, FitsLeft, layers_of, IsName, OfLayer, IsExpr, IsCondition, IsPredicate}
@@ -29,7 +29,7 @@ use Rattle.spx_cursor.specs.Reading.{Outcome, Reader, and_then, peek, sees}
 use Rattle.spx_cursor.specs.Operators.{sign_of, abs_or_not, power_of, multiplying, adding, relator_of, logical, connective_of, last_layer, if_then, if_else, same_logical, goes_on, second, whole_by, whole_operator}
 use Rattle.spx_parse_body.specs.Expressions.{joined, group_step, choice, component, part_step, named_step, name_step, literal, in_parentheses, primary_by, primary, operated, joined_by, power_by, power, factor_by, factor, step_by, chain_step, chained, term, signed_by, signed, sum, type_by, member_by, member, inside, outside, relation_by, relation, combined, opening_by, opening, combination_by, combination, connection_by, connection, read, below, at_layer, name, expression, predicate, expression_at, predicate_after, simple_expression, expression_below, simple_expression_below, IsExprAt, plain_name, name_at}
 use Rattle.spx_parse_body.specs.Expressions.{in_type as in_type_tall}
-use Rattle.spx_parse_body.proofs.Callers.Heights.{tops, height, name_height, infix_height, prefix_height, parenthesized_height, in_type_height, in_range_height, rank_low, IsUpTo, Layered, IsPart, Operands, infix_parts, prefix_parts, enclosed_parts, in_type_parts, in_range_parts, name_parts, infix_layer, prefix_layer, in_type_layer, in_range_layer, name_layer, infix_has, number_height, by_form, by_kind, by_height, of_layer_low, layered_of, parts_of, parts_low}
+use Rattle.spx_parse_body.proofs.Callers.Heights.{height, name_height, infix_height, prefix_height, parenthesized_height, in_type_height, in_range_height, rank_low, IsUpTo, Layered, infix_parts, prefix_parts, enclosed_parts, in_type_parts, in_range_parts, name_parts, infix_layer, prefix_layer, in_type_layer, in_range_layer, name_layer, infix_has, number_height, by_form, by_kind, by_height, of_layer_low, layered_of, parts_of, parts_low}
 use Rattle.spx_parse_body.proofs.Callers.Names.{text_of, name_text}
 use Rattle.spx_parse_body.proofs.Callers.ExpressionsGood.{enclosed_text, prefixed_text, infix_text, in_type_text, in_range_text}
 use Rattle.spx_parse_body.proofs.Callers.Fronts.{peek_here, front_kind, number_front, name_front_is, enclosed_front, prefix_front, infix_front, infix_less, by_left, front, front_no_second}

@@ -1,6 +1,6 @@
 -- Choices and associations of aggregates as they are read: what they are written with, and what they are.
 use Rattle.std.specs.Prelude.{⊤}
-use Rattle.std.proofs.Common.{◌≡◌, ℕ, zero, suc, ◌+◌, ◌-◌, ◌≤◌, ◌<◌, max, Bool, true, false, List, [], ◌∷◌, ◌++◌, map, take, drop, length, refl, sym, ap, ap₂, subst, ◌∙◌, append_assoc, arith, length-append}
+use Rattle.std.proofs.Common.{◌≡◌, ℕ, zero, suc, ◌+◌, ◌-◌, ◌≤◌, ◌<◌, Bool, true, List, [], ◌∷◌, ◌++◌, map, take, drop, length, refl, sym, ap, ap₂, subst, ◌∙◌, append_assoc, arith, length-append}
 use Rattle.std.proofs.lemmas.List.{append-nil, take-append-le, drop-append-le, length-map, length-drop, map-append}
 use Rattle.spx_tree.specs.declared.token.Kind.{Kind}
 use Rattle.spx_tree.specs.declared.token.Kind.TheVariants as k
@@ -15,15 +15,15 @@ use Rattle.spx_tree.specs.declared.expression.Aggregate.TheVariants as aggregate
 use Rattle.spx_tree.specs.declared.expression.Identifier.{Identifier}
 use Rattle.spx_tree.specs.declared.expression.Expr.{Expr}
 use Rattle.spx_tree.specs.Form.{Form, bare}
-use Rattle.spx_tree.specs.Written.{joined, following, separated, total, pieces, choice_takes, list_takes, association_takes, same_forms, written_form, written_list, written_association, written_aggregate, written_expr}
-use Rattle.spx_tree.specs.Grammar.{OneOrMore, rank, layer_in, layers_of_all, layers_of_choice, layers_of_list, layers_of_association, layers_of_aggregate, IsChoiceList, IsAggregate, AreOf}
+use Rattle.spx_tree.specs.Written.{joined, following, separated, total, pieces, choice_takes, association_takes, same_forms, written_form, written_list, written_association, written_aggregate, written_expr}
+use Rattle.spx_tree.specs.Grammar.{OneOrMore, rank, layer_in, layers_of_all, layers_of_choice, layers_of_association, layers_of_aggregate, IsChoiceList, IsAggregate, AreOf}
 use Rattle.spx_parse_body.specs.declared.tall.Tall.{Tall}
 use Rattle.spx_parse_body.specs.declared.names.Parts.{Parts}
 use Rattle.spx_parse_body.specs.Expressions.{up_to_sum, is_sum, no_parts, with_part, both_parts, no_items, with_item, single_choice, range_choice, with_value, one_aggregate}
 use Rattle.spx_parse_body.proofs.Callers.Heights.{tops, height, IsPart}
-use Rattle.spx_parse_body.proofs.Callers.Names.{spelled, IsTall, all_length, choice_length, association_length, are_length, are_append, tops_append, IsParts, first_part_fit, some_added, each_always, each_of, some_length, all_positional}
+use Rattle.spx_parse_body.proofs.Callers.Names.{spelled, IsTall, all_length, choice_length, are_length, are_append, tops_append, IsParts, first_part_fit, some_added, each_always, each_of, some_length, all_positional}
 use Rattle.spx_parse_body.proofs.Callers.Lawful.{Always}
-use Rattle.spx_parse_body.proofs.Callers.Separated.{all_added, separated_adds}
+use Rattle.spx_parse_body.proofs.Callers.Separated.{separated_adds}
 
 -- ---- sums
 

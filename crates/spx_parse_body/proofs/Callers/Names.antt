@@ -1,6 +1,6 @@
 -- Names step by step: what they are written with, and what they are.
 use Rattle.std.specs.Prelude.{⊤}
-use Rattle.std.proofs.Common.{◌≡◌, ℕ, zero, suc, ◌+◌, ◌-◌, ◌≤◌, ◌<◌, max, Bool, List, [], ◌∷◌, ◌++◌, map, take, drop, replicate, length, Option, Some, None, refl, sym, ap, ap₂, subst, ◌∙◌, append_assoc, arith, length-append}
+use Rattle.std.proofs.Common.{◌≡◌, ℕ, suc, ◌+◌, ◌-◌, ◌≤◌, ◌<◌, max, Bool, List, [], ◌∷◌, ◌++◌, map, take, drop, replicate, length, Option, Some, None, refl, sym, ap, ap₂, subst, ◌∙◌, append_assoc, arith, length-append}
 use Rattle.std.proofs.lemmas.List.{append-nil, take-append-le, drop-append-le, length-replicate, length-map, length-drop, map-append}
 use Rattle.std.proofs.Math.Seq.{take-length}
 use Rattle.spx_text.specs.declared.place.Place.{Place}
@@ -31,7 +31,7 @@ use Rattle.spx_parse_body.specs.declared.tall.Tall.{Tall}
 use Rattle.spx_parse_body.specs.declared.names.Parts.{Parts}
 use Rattle.spx_parse_body.specs.declared.names.TallName.{TallName}
 use Rattle.spx_parse_body.specs.Expressions.{plain_name, name_at, root_alone, alone_in, identifier_in, no_parts, with_part, with_named, one_part, all_named, root_name, with_step}
-use Rattle.spx_parse_body.proofs.Callers.Heights.{tops, height, Layered, IsUpTo, IsPart, by_form}
+use Rattle.spx_parse_body.proofs.Callers.Heights.{tops, height, Layered, IsPart, by_form}
 use Rattle.spx_parse_body.proofs.Callers.Lawful.{Always}
 use Rattle.spx_parse_body.proofs.Callers.Separated.{all_added, separated_adds}
 

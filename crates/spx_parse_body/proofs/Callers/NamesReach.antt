@@ -1,5 +1,4 @@
 -- The forms of a name are read as that, whatever stands after them that does not go on with it.
-use Rattle.std.specs.Prelude.{⊤}
 use Rattle.std.proofs.Common.{◌≡◌, ℕ, zero, suc, ◌+◌, ◌-◌, ◌≤◌, ◌<◌, max, Bool, true, false, List, [], ◌∷◌, ◌++◌, map, take, drop, replicate, length, Option, Some, None, refl, sym, ap, ap₂, subst, ◌∙◌, append_assoc, arith}
 use Rattle.std.proofs.lemmas.List.{append-nil, take-append-drop, take-map, drop-map, length-replicate, length-map}
 use Rattle.spx_text.specs.declared.place.Place.{Place}
@@ -22,18 +21,18 @@ use Rattle.spx_tree.specs.declared.expression.Path.{Path}
 use Rattle.spx_tree.specs.declared.expression.Expr.{Expr}
 use Rattle.spx_tree.specs.declared.expression.Expr.TheVariants as expr
 use Rattle.spx_tree.specs.declared.expression.Expr.TheVariants.{outs-Name}
-use Rattle.spx_tree.specs.Form.{Form, Kept, Nothing, Where, Spelled, bare, placed}
+use Rattle.spx_tree.specs.Form.{Form, Nothing, Where, Spelled, bare, placed}
 use Rattle.spx_tree.specs.Form.{named as named_form}
 use Rattle.spx_tree.specs.Written.{following, separated, pieces, choice_takes, association_takes, takes, same_forms, named_parts, written_arguments, written_form, written_association, written_aggregate, written_step, written_steps, written_path, written_expr}
-use Rattle.spx_tree.specs.Grammar.{Each, OneOrMore, rank, layer_in, layers_of_all, layers_of_choice, layers_of_association, layers_of_aggregate, layers_of_step, layers_of, IsChoiceList, IsAggregate, IsStep, AreOf}
+use Rattle.spx_tree.specs.Grammar.{Each, rank, layer_in, layers_of_all, layers_of_choice, layers_of_association, layers_of_aggregate, layers_of_step, layers_of, IsChoiceList, IsAggregate, IsStep, AreOf}
 use Rattle.spx_parse_body.specs.declared.tall.Tall.{Tall}
 use Rattle.spx_parse_body.specs.declared.names.Parts.{Parts}
 use Rattle.spx_parse_body.specs.declared.names.TallName.{TallName}
 use Rattle.spx_parse_body.specs.declared.names.StepKind.{StepKind}
 use Rattle.spx_parse_body.specs.declared.names.StepKind.TheVariants as steps
 use Rattle.spx_cursor.specs.Reading.{Reader, pure, peek, is_kind, sees, expect, optional_by, if_seen}
-use Rattle.spx_parse_body.specs.Expressions.{is_sum, group_step, single_choice, choice_by, choice_after, choice, more_choices, choices_after, component_after, others_after, component, more_components, named_aggregate, positional_aggregate, chosen_by, aggregate_by, aggregate_of, aggregate, name_at, alone_in, identifier_in, no_parts, with_part, with_named, one_part, all_named, root_name, with_step, name_alone, step_of, part_step, more_parts, association, named_part, named_step, more_named, positional, named, named_by, arguments_by, arguments, selection, application, qualification, attribute, quotation_by, quotation, entry, step_read, name_step_by, name_step, name_steps, tall_name, name_primary}
-use Rattle.spx_parse_body.proofs.Callers.Heights.{tops, height, name_height, Layered, IsUpTo, IsPart, name_is, name_layer}
+use Rattle.spx_parse_body.specs.Expressions.{is_sum, group_step, single_choice, choice_by, choice_after, choice, more_choices, choices_after, component_after, others_after, component, more_components, named_aggregate, positional_aggregate, chosen_by, aggregate_by, aggregate_of, aggregate, name_at, alone_in, identifier_in, no_parts, with_part, with_named, all_named, root_name, with_step, step_of, part_step, more_parts, association, named_part, named_step, more_named, positional, named, named_by, arguments_by, arguments, selection, application, qualification, attribute, quotation_by, quotation, entry, step_read, name_step_by, name_step, name_steps, tall_name, name_primary}
+use Rattle.spx_parse_body.proofs.Callers.Heights.{tops, height, name_height, Layered, IsPart, name_is, name_layer}
 use Rattle.spx_parse_body.proofs.Callers.Names.{choice_length, association_length, all_length, name_text, step_length, are_length, tops_append}
 use Rattle.spx_parse_body.proofs.Callers.Shaped.{kind_self}
 use Rattle.spx_parse_body.proofs.Callers.Fronts.{peek_here, not_others}
