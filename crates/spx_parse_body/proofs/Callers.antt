@@ -8,10 +8,14 @@ pub mod Separated
 pub mod Operators
 pub mod Heights
 pub mod Names
+pub mod Groups
+pub mod GroupsGood
+pub mod GroupsReach
 pub mod ExpressionsGood
 pub mod Exact
 pub mod StatementsGood
 pub mod Turns
+pub mod Fronts
 pub mod NamesReach
 pub mod ExpressionsReach
 pub mod StatementsReach

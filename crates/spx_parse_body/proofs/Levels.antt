@@ -2,25 +2,31 @@
 use Rattle.std.specs.Prelude.{⊤}
 use Rattle.std.proofs.Common.{◌≡◌, ℕ, zero, suc, ◌-◌, ◌<◌, Bool, true, false, cond, List, length, Option, Some, None, Ok, Err, refl, sym, ap, ◌∙◌, arith, leb}
 use Rattle.spx_text.specs.declared.place.Place.{Place}
+use Rattle.spx_tree.specs.declared.token.Kind.{Kind}
 use Rattle.spx_tree.specs.declared.token.Kind.TheVariants as k
 use Rattle.spx_tree.specs.declared.expression.Identifier.{Identifier}
 use Rattle.spx_tree.specs.declared.expression.InfixOp.{InfixOp}
+use Rattle.spx_tree.specs.declared.expression.PrefixOp.{PrefixOp}
+use Rattle.spx_tree.specs.declared.expression.PrefixOp.TheVariants as sign
+use Rattle.spx_tree.specs.declared.expression.ChoiceForm.{ChoiceForm}
+use Rattle.spx_tree.specs.declared.expression.ChoiceList.{ChoiceList}
 use Rattle.spx_tree.specs.declared.expression.Layer.{Layer}
 use Rattle.spx_tree.specs.declared.expression.Layer.TheVariants as layer
 use Rattle.spx_tree.specs.Form.{Form}
 use Rattle.spx_tree.specs.Written.{program}
+use Rattle.spx_tree.specs.Grammar.{layer_before}
 use Rattle.spx_tree.specs.Goes.{Fault, TooDeep}
 use Rattle.spx_parse_body.specs.declared.tall.Tall.{Tall}
-use Rattle.spx_cursor.specs.Reading.{Outcome, Reader, and_then, ◌>>=◌, ◌>>◌, pure, peek, sees, expect, expect_place, identifier, deeper, turn, loop}
+use Rattle.spx_cursor.specs.Reading.{Outcome, Reader, and_then, ◌>>=◌, ◌>>◌, pure, peek, sees, expect, expect_place, deeper, turn, loop}
 use Rattle.spx_cursor.specs.declared.operators.Chain.{Chain}
 use Rattle.spx_cursor.specs.Operators.{goes_on}
 use Rattle.spx_parse_body.specs.declared.names.Parts.{Parts}
 use Rattle.spx_parse_body.specs.declared.names.TallName.{TallName}
 use Rattle.spx_parse_body.specs.declared.names.StepKind.{StepKind}
-use Rattle.spx_parse_body.specs.Expressions.{enclosed, with_part, with_named, step_of, in_parentheses, part_step, more_parts, named_part, named_step, more_named, step_read, name_step_by, name_step, name_steps, joined_by, step_by, chain_step, chained, below, at_layer, name}
+use Rattle.spx_parse_body.specs.Expressions.{enclosed, up_to_sum, with_part, with_named, with_item, group_step, choice, more_choices, component, more_components, step_of, in_parentheses, part_step, more_parts, named_part, named_step, more_named, step_read, name_step_by, name_step, name_steps, joined_by, step_by, chain_step, chained, below, at_layer, name}
 use Rattle.spx_parse_body.specs.Statements.{constraint_below, constraint, type_below, stmts_below, stmts}
 use Rattle.spx_parse_body.proofs.Callers.Loops.{loop_is}
-use Rattle.spx_parse_body.proofs.Callers.ExpressionsGood.{below_good, chain_shrinks, parts_shrinks, named_shrinks, name_shrinks}
+use Rattle.spx_parse_body.proofs.Callers.ExpressionsGood.{below_good, chain_shrinks, parts_shrinks, named_shrinks, choices_shrink, components_shrink, name_shrinks}
 
 pub below_is : (marked : Bool) (levels : ℕ) (layer : Layer) (fs : List Form) → 0 < levels → below marked levels layer fs ≡ at_layer marked (levels - 1) layer fs
 unfolding below at_layer
@@ -124,14 +130,14 @@ named_parts_by marked levels parts false = pure parts
 named_parts_by marked levels parts true = expect marked k.Comma >>= λ u. named_part marked (below marked levels) levels >>= λ x. more_named marked (below marked levels) levels (with_named parts x)
 
 -- a separator, an item, and what goes on with the item
-item_is : {A S : Type 0} (marked : Bool) (item : Reader A) (add : A → S) (go_on : S → Reader S) (fs : List Form)
-    → and_then (and_then (and_then (expect marked k.Comma fs) (λ u. item)) (λ x. pure (add x))) go_on ≡ and_then (expect marked k.Comma fs) (λ u. item >>= λ x. go_on (add x))
-item_is marked item add go_on fs =
-    and_then_assoc (and_then (expect marked k.Comma fs) (λ u. item)) (λ x. pure (add x)) go_on ∙ and_then_assoc (expect marked k.Comma fs) (λ u. item) (λ x. go_on (add x))
+item_is : {A S : Type 0} (marked : Bool) (sep : Kind) (item : Reader A) (add : A → S) (go_on : S → Reader S) (fs : List Form)
+    → and_then (and_then (and_then (expect marked sep fs) (λ u. item)) (λ x. pure (add x))) go_on ≡ and_then (expect marked sep fs) (λ u. item >>= λ x. go_on (add x))
+item_is marked sep item add go_on fs =
+    and_then_assoc (and_then (expect marked sep fs) (λ u. item)) (λ x. pure (add x)) go_on ∙ and_then_assoc (expect marked sep fs) (λ u. item) (λ x. go_on (add x))
 
 parts_turn_is : (marked : Bool) (levels : ℕ) (parts : Parts) (b : Bool) (fs : List Form) → turn (more_parts marked (below marked levels) levels) parts (part_step marked (below marked levels) levels parts b) fs ≡ parts_by marked levels parts b fs
 parts_turn_is marked levels parts false fs = refl
-parts_turn_is marked levels parts true fs = item_is marked (below marked levels layer.Expression) (with_part parts) (more_parts marked (below marked levels) levels) fs
+parts_turn_is marked levels parts true fs = item_is marked k.Comma (below marked levels layer.Expression) (with_part parts) (more_parts marked (below marked levels) levels) fs
 
 pub more_parts_is : (marked : Bool) (levels : ℕ) (parts : Parts) (fs : List Form) → 0 < levels → more_parts marked (below marked levels) levels parts fs ≡ parts_by marked levels parts (sees marked k.Comma fs) fs
 unfolding more_parts
@@ -140,12 +146,44 @@ more_parts_is marked levels parts fs some =
 
 named_turn_is : (marked : Bool) (levels : ℕ) (parts : Parts) (b : Bool) (fs : List Form) → turn (more_named marked (below marked levels) levels) parts (named_step marked (below marked levels) levels parts b) fs ≡ named_parts_by marked levels parts b fs
 named_turn_is marked levels parts false fs = refl
-named_turn_is marked levels parts true fs = item_is marked (named_part marked (below marked levels) levels) (with_named parts) (more_named marked (below marked levels) levels) fs
+named_turn_is marked levels parts true fs = item_is marked k.Comma (named_part marked (below marked levels) levels) (with_named parts) (more_named marked (below marked levels) levels) fs
 
 pub more_named_is : (marked : Bool) (levels : ℕ) (parts : Parts) (fs : List Form) → 0 < levels → more_named marked (below marked levels) levels parts fs ≡ named_parts_by marked levels parts (sees marked k.Comma fs) fs
 unfolding more_named
 more_named_is marked levels parts fs some =
     loop_is (sees marked k.Comma) (named_step marked (below marked levels) levels) (named_shrinks marked (below marked levels) (below marked (suc levels)) levels (below_good marked levels) some) parts fs ∙ named_turn_is marked levels parts (sees marked k.Comma fs) fs
+
+-- one more choice or association, as the code takes it
+abbrev pub group_by : {A : Type 0} → Bool → Kind → Reader (A × Parts) → (List A × Parts → Reader (List A × Parts)) → List A × Parts → Bool → Reader (List A × Parts)
+group_by marked sep item go_on found false = pure found
+group_by marked sep item go_on found true = expect marked sep >>= λ u. item >>= λ x. go_on (with_item found x)
+
+group_turn_is : {A : Type 0} (marked : Bool) (sep : Kind) (item : Reader (A × Parts)) (go_on : List A × Parts → Reader (List A × Parts)) (found : List A × Parts) (b : Bool) (fs : List Form) → turn go_on found (group_step marked sep item found b) fs ≡ group_by marked sep item go_on found b fs
+group_turn_is marked sep item go_on found false fs = refl
+group_turn_is marked sep item go_on found true fs = item_is marked sep item (with_item found) go_on fs
+
+pub more_choices_is : (marked : Bool) (levels : ℕ) (found : List ChoiceForm × Parts) (fs : List Form) → 0 < levels
+    → more_choices marked (below marked levels) levels found fs ≡ group_by marked k.Bar (choice marked (below marked levels) levels) (more_choices marked (below marked levels) levels) found (sees marked k.Bar fs) fs
+unfolding more_choices
+more_choices_is marked levels found fs some =
+    let item = choice marked (below marked levels) levels in
+    loop_is (sees marked k.Bar) (group_step marked k.Bar item) (choices_shrink marked (below marked levels) (below marked (suc levels)) levels (below_good marked levels) some) found fs
+    ∙ group_turn_is marked k.Bar item (loop (sees marked k.Bar) (group_step marked k.Bar item)) found (sees marked k.Bar fs) fs
+
+pub more_components_is : (marked : Bool) (levels : ℕ) (found : List ChoiceList × Parts) (fs : List Form) → 0 < levels
+    → more_components marked (below marked levels) levels found fs ≡ group_by marked k.Comma (component marked (below marked levels) levels) (more_components marked (below marked levels) levels) found (sees marked k.Comma fs) fs
+unfolding more_components
+more_components_is marked levels found fs some =
+    let item = component marked (below marked levels) levels in
+    loop_is (sees marked k.Comma) (group_step marked k.Comma item) (components_shrink marked (below marked levels) (below marked (suc levels)) levels (below_good marked levels) some) found fs
+    ∙ group_turn_is marked k.Comma item (loop (sees marked k.Comma) (group_step marked k.Comma item)) found (sees marked k.Comma fs) fs
+
+-- a sign stands before a sum, or before a part of one
+pub sign_is_sum : (o : PrefixOp) → up_to_sum (layer_before o) ≡ true
+sign_is_sum sign.Plus = refl
+sign_is_sum sign.Minus = refl
+sign_is_sum sign.Abs = refl
+sign_is_sum sign.Not = refl
 
 -- ---- a turn takes a form
 
@@ -154,15 +192,25 @@ name_shorter marked levels n m x fs rest seen e =
     (name_shrinks marked (below marked levels) (below marked (suc levels)) levels (below_good marked levels)).shortens n fs (step_read marked (below marked levels) levels n x) (ap (name_step_by marked (below marked levels) levels n) seen) m rest e
 
 -- a separator and an item
-pair_found : {A B : Type 0} (marked : Bool) (item : Reader A) (add : A → B) (fs middle rest : List Form) (x : A) → expect marked k.Comma fs ≡ Ok (tt, middle) → item middle ≡ Ok (x, rest) → ((expect marked k.Comma >> item) >>= λ y. pure (add y)) fs ≡ Ok (add x, rest)
-pair_found marked item add fs middle rest x e f = ap (λ (r : Outcome ⊤). and_then (and_then r (λ u. item)) (λ y. pure (add y))) e ∙ ap (λ (r : Outcome _). and_then r (λ y. pure (add y))) f
+pair_found : {A B : Type 0} (marked : Bool) (sep : Kind) (item : Reader A) (add : A → B) (fs middle rest : List Form) (x : A) → expect marked sep fs ≡ Ok (tt, middle) → item middle ≡ Ok (x, rest) → ((expect marked sep >> item) >>= λ y. pure (add y)) fs ≡ Ok (add x, rest)
+pair_found marked sep item add fs middle rest x e f = ap (λ (r : Outcome ⊤). and_then (and_then r (λ u. item)) (λ y. pure (add y))) e ∙ ap (λ (r : Outcome _). and_then r (λ y. pure (add y))) f
 
 pub part_shorter : (marked : Bool) (levels : ℕ) → 0 < levels → (parts : Parts) (t : Tall) (fs middle rest : List Form) → sees marked k.Comma fs ≡ true → expect marked k.Comma fs ≡ Ok (tt, middle) → below marked levels layer.Expression middle ≡ Ok (t, rest) → length rest < length fs
 part_shorter marked levels some parts t fs middle rest seen e f =
     (parts_shrinks marked (below marked levels) (below marked (suc levels)) levels (below_good marked levels) some).shortens parts fs _ (ap (part_step marked (below marked levels) levels parts) seen) (with_part parts t) rest
-    (pair_found marked (below marked levels layer.Expression) (with_part parts) fs middle rest t e f)
+    (pair_found marked k.Comma (below marked levels layer.Expression) (with_part parts) fs middle rest t e f)
 
 pub named_shorter : (marked : Bool) (levels : ℕ) → 0 < levels → (parts : Parts) (x : Identifier × Tall) (fs middle rest : List Form) → sees marked k.Comma fs ≡ true → expect marked k.Comma fs ≡ Ok (tt, middle) → named_part marked (below marked levels) levels middle ≡ Ok (x, rest) → length rest < length fs
 named_shorter marked levels some parts x fs middle rest seen e f =
     (named_shrinks marked (below marked levels) (below marked (suc levels)) levels (below_good marked levels) some).shortens parts fs _ (ap (named_step marked (below marked levels) levels parts) seen) (with_named parts x) rest
-    (pair_found marked (named_part marked (below marked levels) levels) (with_named parts) fs middle rest x e f)
+    (pair_found marked k.Comma (named_part marked (below marked levels) levels) (with_named parts) fs middle rest x e f)
+
+pub choice_shorter : (marked : Bool) (levels : ℕ) → 0 < levels → (found : List ChoiceForm × Parts) (x : ChoiceForm × Parts) (fs middle rest : List Form) → sees marked k.Bar fs ≡ true → expect marked k.Bar fs ≡ Ok (tt, middle) → choice marked (below marked levels) levels middle ≡ Ok (x, rest) → length rest < length fs
+choice_shorter marked levels some found x fs middle rest seen e f =
+    (choices_shrink marked (below marked levels) (below marked (suc levels)) levels (below_good marked levels) some).shortens found fs _ (ap (group_step marked k.Bar (choice marked (below marked levels) levels) found) seen) (with_item found x) rest
+    (pair_found marked k.Bar (choice marked (below marked levels) levels) (with_item found) fs middle rest x e f)
+
+pub component_shorter : (marked : Bool) (levels : ℕ) → 0 < levels → (found : List ChoiceList × Parts) (x : ChoiceList × Parts) (fs middle rest : List Form) → sees marked k.Comma fs ≡ true → expect marked k.Comma fs ≡ Ok (tt, middle) → component marked (below marked levels) levels middle ≡ Ok (x, rest) → length rest < length fs
+component_shorter marked levels some found x fs middle rest seen e f =
+    (components_shrink marked (below marked levels) (below marked (suc levels)) levels (below_good marked levels) some).shortens found fs _ (ap (group_step marked k.Comma (component marked (below marked levels) levels) found) seen) (with_item found x) rest
+    (pair_found marked k.Comma (component marked (below marked levels) levels) (with_item found) fs middle rest x e f)

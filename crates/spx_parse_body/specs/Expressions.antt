@@ -1,5 +1,5 @@
 -- Reading names and expressions (Ada 95 RM 4.1 and 4.4), one level down for each parenthesis, operator and membership test.
-use Rattle.std.specs.Prelude.{ℕ, zero, suc, ◌+◌, max, Bool, true, false, List, [], ◌∷◌, ◌++◌, length, Option, Some, None}
+use Rattle.std.specs.Prelude.{⊤, ℕ, zero, suc, ◌+◌, max, Bool, true, false, List, [], ◌∷◌, ◌++◌, length, Option, Some, None}
 use Rattle.spx_text.specs.declared.place.Place.{Place}
 use Rattle.spx_tree.specs.declared.token.Kind.{Kind}
 use Rattle.spx_tree.specs.declared.token.Kind.TheVariants as k
@@ -12,6 +12,12 @@ use Rattle.spx_tree.specs.declared.expression.Layer.{Layer}
 use Rattle.spx_tree.specs.declared.expression.Layer.TheVariants as layer
 use Rattle.spx_tree.specs.declared.expression.Arguments.{Arguments}
 use Rattle.spx_tree.specs.declared.expression.Arguments.TheVariants as arguments_as
+use Rattle.spx_tree.specs.declared.expression.ChoiceForm.{ChoiceForm}
+use Rattle.spx_tree.specs.declared.expression.ChoiceForm.TheVariants as form
+use Rattle.spx_tree.specs.declared.expression.ChoiceList.{ChoiceList}
+use Rattle.spx_tree.specs.declared.expression.ChoiceList.TheVariants as choice_list
+use Rattle.spx_tree.specs.declared.expression.Aggregate.{Aggregate}
+use Rattle.spx_tree.specs.declared.expression.Aggregate.TheVariants as aggregate_as
 use Rattle.spx_tree.specs.declared.expression.NameStep.{NameStep}
 use Rattle.spx_tree.specs.declared.expression.NameStep.TheVariants as step
 use Rattle.spx_tree.specs.declared.expression.Path.{Path}
@@ -20,7 +26,7 @@ use Rattle.spx_tree.specs.declared.expression.Expr.{Expr, Expr-F, out-Expr}
 use Rattle.spx_tree.specs.declared.expression.Expr.TheVariants as expr
 use Rattle.spx_tree.specs.declared.annotation.Predicate.{Predicate}
 use Rattle.spx_tree.specs.Written.{annotation, sign_kind, operator_kind}
-use Rattle.spx_tree.specs.Grammar.{layer_of, right_layer, operand_layer, OfLayer}
+use Rattle.spx_tree.specs.Grammar.{layer_of, layer_in, right_layer, operand_layer, OfLayer}
 use Rattle.spx_parse_body.specs.declared.tall.Tall.{Tall}
 use Rattle.spx_parse_body.specs.declared.names.Parts.{Parts}
 use Rattle.spx_parse_body.specs.declared.names.TallName.{TallName}
@@ -30,7 +36,7 @@ use Rattle.spx_cursor.specs.declared.operators.Chain.{Chain}
 use Rattle.spx_cursor.specs.declared.operators.Chain.TheVariants as chain
 use Rattle.spx_cursor.specs.declared.operators.Relator.{Relator}
 use Rattle.spx_cursor.specs.declared.operators.Relator.TheVariants as relators
-use Rattle.spx_cursor.specs.Reading.{Reader, ◌>>=◌, ◌>>◌, pure, refuse, too_deep, peek, sees, expect, expect_place, identifier, number, deeper, loop}
+use Rattle.spx_cursor.specs.Reading.{Reader, ◌>>=◌, ◌>>◌, pure, refuse, too_deep, peek, sees, expect, expect_place, identifier, number, if_seen, deeper, loop}
 use Rattle.spx_cursor.specs.Operators.{sign_of, abs_or_not, power_of, relator_of, logical, connective_of, goes_on, last_layer, second, whole_operator}
 
 -- ---- expressions and their heights
@@ -86,6 +92,20 @@ alone_in (Some name) = root_alone name.path.root name.path.steps
 abbrev pub identifier_in : Expr → Option Identifier
 identifier_in e = alone_in (plain_name e)
 
+-- an expression of this layer is a sum
+abbrev pub up_to_sum : Layer → Bool
+up_to_sum layer.Primary = true
+up_to_sum layer.Factor = true
+up_to_sum layer.Term = true
+up_to_sum layer.Sum = true
+up_to_sum layer.Relation = false
+up_to_sum layer.Expression = false
+up_to_sum layer.Predicate = false
+
+-- the expression is a sum
+abbrev pub is_sum : Expr → Bool
+is_sum e = up_to_sum (layer_in e)
+
 -- number
 unfoldable pub literal : Bool → Reader Tall
 literal marked = do
@@ -118,6 +138,39 @@ one_part t = (arguments_as.Positional 1, with_part no_parts t)
 -- arguments that are named, and their expressions
 abbrev pub all_named : Parts → Arguments × Parts
 all_named parts = (arguments_as.Named parts.names, record { names = []; exprs = parts.exprs; height = parts.height })
+
+-- the expressions of both
+abbrev pub both_parts : Parts → Parts → Parts
+both_parts before after = record { names = before.names; exprs = before.exprs ++ after.exprs; height = max before.height after.height }
+
+-- no choices or associations
+abbrev pub no_items : {A : Type 0} → List A × Parts
+no_items = ([], no_parts)
+
+-- one choice or association more, and its expressions
+abbrev pub with_item : {A : Type 0} → List A × Parts → A × Parts → List A × Parts
+with_item found x = (found.0 ++ x.0 ∷ [], both_parts found.1 x.1)
+
+-- a separator and one choice or association more
+abbrev pub group_step : {A : Type 0} → Bool → Kind → Reader (A × Parts) → List A × Parts → Bool → Option (Reader (List A × Parts))
+group_step marked sep item found false = None
+group_step marked sep item found true = Some ((expect marked sep >> item) >>= λ x. pure (with_item found x))
+
+-- a choice of one expression, and this
+abbrev pub single_choice : Tall → ChoiceForm × Parts
+single_choice t = (form.Single, with_part no_parts t)
+
+-- a choice of two
+abbrev pub range_choice : Tall → Tall → ChoiceForm × Parts
+range_choice low high = (form.Range, with_part (with_part no_parts low) high)
+
+-- choices and the value after them
+abbrev pub with_value : ChoiceList → Parts → Tall → ChoiceList × Parts
+with_value choices parts value = (choices, with_part parts value)
+
+-- an aggregate of one expression, or a qualified expression, and this
+abbrev pub one_aggregate : Tall → Aggregate × Parts
+one_aggregate t = (aggregate_as.Positional 1, with_part no_parts t)
 
 -- an identifier
 abbrev pub root_name : Identifier → TallName
@@ -199,6 +252,83 @@ module _ (marked : Bool) (below : Layer → Reader Tall) (levels : ℕ) where
   unfoldable pub arguments : Reader (Arguments × Parts)
   arguments = below layer.Expression >>= λ first fs. arguments_by first (peek marked fs) fs
 
+  -- ---- aggregates (Ada 95 RM 4.3)
+
+  abbrev pub choice_by : Tall → Option Kind → Reader (ChoiceForm × Parts)
+  choice_by low (Some k.DoubleDot) = do
+    expect marked k.DoubleDot
+    high ← below layer.Sum
+    pure (range_choice low high)
+  choice_by low _ = pure (single_choice low)
+
+  -- a choice after its first sum
+  unfoldable pub choice_after : Tall → Reader (ChoiceForm × Parts)
+  choice_after low = λ fs. choice_by low (peek marked fs) fs
+
+  -- sum [".." sum]
+  unfoldable pub choice : Reader (ChoiceForm × Parts)
+  choice = below layer.Sum >>= choice_after
+
+  -- {"|" choice}
+  unfoldable pub more_choices : List ChoiceForm × Parts → Reader (List ChoiceForm × Parts)
+  more_choices found = loop (sees marked k.Bar) (group_step marked k.Bar choice) found
+
+  -- choices after their first sum
+  unfoldable pub choices_after : Tall → Reader (List ChoiceForm × Parts)
+  choices_after first = choice_after first >>= λ x. more_choices (with_item no_items x)
+
+  -- an association after its first sum
+  unfoldable pub component_after : Tall → Reader (ChoiceList × Parts)
+  component_after first = choices_after first >>= λ x. association >>= λ t. pure (with_value (choice_list.Choices x.0) x.1 t)
+
+  -- "=>" expression, after "others"
+  unfoldable pub others_after : Reader (ChoiceList × Parts)
+  others_after = association >>= λ t. pure (with_value choice_list.Others no_parts t)
+
+  abbrev pub component_by : Option ⊤ → Reader (ChoiceList × Parts)
+  component_by (Some others) = others_after
+  component_by None = below layer.Sum >>= component_after
+
+  -- ("others" | choice {"|" choice}) "=>" expression
+  unfoldable pub component : Reader (ChoiceList × Parts)
+  component = if_seen marked k.Others (expect marked k.Others) >>= component_by
+
+  -- {"," association}
+  unfoldable pub more_components : List ChoiceList × Parts → Reader (List ChoiceList × Parts)
+  more_components found = loop (sees marked k.Comma) (group_step marked k.Comma component) found
+
+  -- an aggregate after its first association
+  unfoldable pub named_aggregate : ChoiceList × Parts → Reader (Aggregate × Parts)
+  named_aggregate first = more_components (with_item no_items first) >>= λ x. pure (aggregate_as.Named x.0, x.1)
+
+  -- an aggregate after its first expression
+  unfoldable pub positional_aggregate : Tall → Reader (Aggregate × Parts)
+  positional_aggregate first = more_parts (with_part no_parts first) >>= λ parts. pure (aggregate_as.Positional (length parts.exprs), parts)
+
+  -- Where the first expression is a sum before "=>", "|" or "..", this is a choice.
+  abbrev pub chosen_by : Tall → Bool → Reader (Aggregate × Parts)
+  chosen_by first true = component_after first >>= named_aggregate
+  chosen_by first false = pure (one_aggregate first)
+
+  abbrev pub aggregate_by : Tall → Option Kind → Reader (Aggregate × Parts)
+  aggregate_by first (Some k.Comma) = positional_aggregate first
+  aggregate_by first (Some k.Arrow) = chosen_by first (is_sum first.expr)
+  aggregate_by first (Some k.Bar) = chosen_by first (is_sum first.expr)
+  aggregate_by first (Some k.DoubleDot) = chosen_by first (is_sum first.expr)
+  aggregate_by first _ = pure (one_aggregate first)
+
+  -- an aggregate that begins with an expression
+  unfoldable pub aggregate_of : Reader (Aggregate × Parts)
+  aggregate_of = below layer.Expression >>= λ first fs. aggregate_by first (peek marked fs) fs
+
+  abbrev pub aggregate_after : Option ⊤ → Reader (Aggregate × Parts)
+  aggregate_after (Some others) = others_after >>= named_aggregate
+  aggregate_after None = aggregate_of
+
+  -- expression {"," expression} | association {"," association}
+  unfoldable pub aggregate : Reader (Aggregate × Parts)
+  aggregate = if_seen marked k.Others (expect marked k.Others) >>= aggregate_after
+
   -- ---- names
 
   -- "." identifier
@@ -213,13 +343,13 @@ module _ (marked : Bool) (below : Layer → Reader Tall) (levels : ℕ) where
     expect marked k.RightParenthesis
     pure (with_step (step.Applied place x.0) x.1.exprs x.1.height n))
 
-  -- "(" expression ")" after "'"
+  -- "(" aggregate ")" after "'"
   unfoldable pub qualification : TallName → Reader TallName
   qualification n = deeper levels 0 (do
     place ← expect_place marked k.LeftParenthesis
-    t ← below layer.Expression
+    x ← aggregate
     expect marked k.RightParenthesis
-    pure (with_step (step.Qualified place) (t.expr ∷ []) (t.height + 1) n))
+    pure (with_step (step.Qualified place x.0) x.1.exprs x.1.height n))
 
   -- identifier after "'"
   unfoldable pub attribute : TallName → Reader TallName
@@ -229,7 +359,7 @@ module _ (marked : Bool) (below : Layer → Reader Tall) (levels : ℕ) where
   quotation_by n (Some k.LeftParenthesis) = qualification n
   quotation_by n _ = attribute n
 
-  -- "'" identifier | "'" "(" expression ")"
+  -- "'" identifier | "'" "(" aggregate ")"
   unfoldable pub quotation : TallName → Reader TallName
   quotation n = expect marked k.Apostrophe >>= λ u fs. quotation_by n (peek marked fs) fs
 

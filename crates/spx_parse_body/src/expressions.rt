@@ -6,6 +6,7 @@ ghost use Rattle.spx_cursor.specs.Reading as reading;
 ghost use Rattle.spx_cursor.specs.Reading.{◌>>=◌ as ◌▷◌};
 ghost use Rattle.spx_cursor.specs.Answers.{Reads};
 
+use crate::aggregates::qualification;
 use crate::names::{
     Parts, StepKind, TallName, all_named, identifier_in, no_parts, one_part, plain_name, root_name,
     step_of, with_named, with_part, with_step,
@@ -103,10 +104,10 @@ fn in_parentheses(
     )
 }
 
-// {"," expression}
+/// Reads {"," expression}.
 #[cycle(layers)]
 #[tactic(auto, using(crate::proofs::Levels::more_parts_is))]
-fn more_parts(
+pub fn more_parts(
     alloc: Global,
     cursor: &mut Cursor<'_>,
     levels: u32,
@@ -127,10 +128,10 @@ fn more_parts(
     Ok(parts)
 }
 
-// association = "=>" expression
+/// Reads "=>" expression.
 #[cycle(layers)]
 #[tactic(auto, unfolding(crate::specs::Expressions::association))]
-fn association(
+pub fn association(
     alloc: Global,
     cursor: &mut Cursor<'_>,
     levels: u32,
@@ -287,32 +288,6 @@ fn application(
     cursor.expect(marked, Kind::RightParenthesis)?;
     let step = NameStep::Applied(place, arguments);
     Ok(with_step(name, step, parts.exprs, parts.height)?)
-}
-
-// "(" expression ")", after "'"
-#[cycle(layers)]
-#[tactic(auto, unfolding(crate::specs::Expressions::qualification))]
-fn qualification(
-    alloc: Global,
-    cursor: &mut Cursor<'_>,
-    levels: u32,
-    marked: bool,
-    name: TallName,
-) -> Result<TallName, Stop>
-    requires { name.height ≤ levels }
-    ensures gives { Reads (read.qualification marked (read.below marked levels) levels name cursor.old) result cursor.new }
-    ensures low { IfOk result (λ n. n.height ≤ levels) }
-{
-    if levels == 0 {
-        return Err(cursor.too_deep());
-    }
-    let place = cursor.expect_place(marked, Kind::LeftParenthesis)?;
-    let part = below(alloc, cursor, levels, marked, Layer::Expression)?;
-    cursor.expect(marked, Kind::RightParenthesis)?;
-    let mut exprs = Items::new(alloc);
-    let height = part.height + 1;
-    exprs.push(part.expr.into_inner())?;
-    Ok(with_step(name, NameStep::Qualified(place), exprs, height)?)
 }
 
 // attribute = identifier, after "'"

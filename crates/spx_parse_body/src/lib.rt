@@ -4,6 +4,7 @@
 //! what the readers of their definitions read, and leave the tokens that these leave.
 #![tactic(auto)]
 
+mod aggregates;
 mod expressions;
 mod names;
 mod readers;

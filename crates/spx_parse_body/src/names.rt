@@ -1,9 +1,13 @@
 // Names as they are read, step by step (Ada 95 RM 4.1).
 ghost use Rattle.std.specs.Prelude.{◌≡◌, ◌<◌, ◌^◌, ◌-◌, IfOk};
+ghost use Rattle.spx_tree.specs.Grammar.{layer_of};
 ghost use Rattle.spx_parse_body.specs.Expressions as read;
 
 use crate::tall::Tall;
-use spx_tree::{Arguments, Expr, Identifier, Kind, Name, NameStep, Path};
+use spx_tree::{
+    Aggregate, Arguments, ChoiceForm, ChoiceList, Expr, Identifier, InfixOp, Kind, Name, NameStep,
+    Path,
+};
 use sqlite_items::Items;
 use std::alloc::{AllocError, Global};
 
@@ -115,6 +119,93 @@ pub(crate) fn all_named(alloc: Global, parts: Parts) -> (Arguments, Parts)
     (Arguments::Named(parts.names), rest)
 }
 
+/// The expressions of both.
+fn both_parts(before: Parts, after: Parts) -> Result<Parts, AllocError>
+    ensures { IfOk result (λ r. r ≡ read.both_parts before after) }
+{
+    let height = before.height.max(after.height);
+    let names = before.names;
+    let mut exprs = before.exprs;
+    exprs.append(after.exprs)?;
+    Ok(Parts {
+        names,
+        exprs,
+        height,
+    })
+}
+
+/// One choice more, and its expressions.
+pub(crate) fn with_choice(
+    found: (Items<ChoiceForm>, Parts),
+    choice: (ChoiceForm, Parts),
+) -> Result<(Items<ChoiceForm>, Parts), AllocError>
+    ensures { IfOk result (λ r. r ≡ read.with_item found choice) }
+{
+    let (mut forms, parts) = found;
+    let (form, own) = choice;
+    forms.push(form)?;
+    Ok((forms, both_parts(parts, own)?))
+}
+
+/// One association more, and its expressions.
+pub(crate) fn with_component(
+    found: (Items<ChoiceList>, Parts),
+    component: (ChoiceList, Parts),
+) -> Result<(Items<ChoiceList>, Parts), AllocError>
+    ensures { IfOk result (λ r. r ≡ read.with_item found component) }
+{
+    let (mut lists, parts) = found;
+    let (list, own) = component;
+    lists.push(list)?;
+    Ok((lists, both_parts(parts, own)?))
+}
+
+/// Choices and the value after them.
+pub(crate) fn with_value(
+    choices: ChoiceList,
+    parts: Parts,
+    value: Tall,
+) -> Result<(ChoiceList, Parts), AllocError>
+    requires { value.height < 2 ^ 32 - 1 }
+    ensures { IfOk result (λ r. r ≡ read.with_value choices parts value) }
+{
+    let parts = with_part(parts, value)?;
+    Ok((choices, parts))
+}
+
+/// A choice of one expression, and this.
+pub(crate) fn single_choice(alloc: Global, choice: Tall) -> Result<(ChoiceForm, Parts), AllocError>
+    requires { choice.height < 2 ^ 32 - 1 }
+    ensures { IfOk result (λ r. r ≡ read.single_choice choice) }
+{
+    let parts = with_part(no_parts(alloc), choice)?;
+    Ok((ChoiceForm::Single, parts))
+}
+
+/// A choice of two expressions, and these.
+pub(crate) fn range_choice(
+    alloc: Global,
+    low: Tall,
+    high: Tall,
+) -> Result<(ChoiceForm, Parts), AllocError>
+    requires low_low { low.height < 2 ^ 32 - 1 }
+    requires high_low { high.height < 2 ^ 32 - 1 }
+    ensures { IfOk result (λ r. r ≡ read.range_choice low high) }
+{
+    let parts = with_part(no_parts(alloc), low)?;
+    let parts = with_part(parts, high)?;
+    Ok((ChoiceForm::Range, parts))
+}
+
+/// An aggregate of one expression, or a qualified expression, and this.
+pub(crate) fn one_aggregate(alloc: Global, part: Tall) -> Result<(Aggregate, Parts), AllocError>
+    requires { part.height < 2 ^ 32 - 1 }
+    ensures { IfOk result (λ r. r ≡ read.one_aggregate part) }
+{
+    let parts = with_part(no_parts(alloc), part)?;
+    Ok((Aggregate::Positional(1), parts))
+}
+
 /// An identifier.
 pub(crate) fn root_name(alloc: Global, root: Identifier) -> TallName
     ensures { result ≡ read.root_name root }
@@ -186,5 +277,49 @@ pub(crate) fn identifier_in(alloc: Global, expr: &Expr) -> Result<Option<Identif
         Expr::Infix(_, _, _, _) => Ok(None),
         Expr::InType(_, _, _, _, _) => Ok(None),
         Expr::InRange(_, _, _, _, _) => Ok(None),
+    }
+}
+
+/// An operator is one of a sum, or of a part of one.
+fn is_sum_operator(op: InfixOp) -> bool
+    ensures { result ≡ read.up_to_sum (layer_of op) }
+{
+    match op {
+        InfixOp::Add => true,
+        InfixOp::Subtract => true,
+        InfixOp::Multiply => true,
+        InfixOp::Divide => true,
+        InfixOp::Mod => true,
+        InfixOp::Rem => true,
+        InfixOp::Power => true,
+        InfixOp::Equal => false,
+        InfixOp::NotEqual => false,
+        InfixOp::Less => false,
+        InfixOp::LessOrEqual => false,
+        InfixOp::Greater => false,
+        InfixOp::GreaterOrEqual => false,
+        InfixOp::And => false,
+        InfixOp::Or => false,
+        InfixOp::Xor => false,
+        InfixOp::AndThen => false,
+        InfixOp::OrElse => false,
+        InfixOp::Implies => false,
+        InfixOp::Equivalent => false,
+    }
+}
+
+/// The expression is a sum.
+#[tactic(auto, using(crate::proofs::Levels::sign_is_sum))]
+pub(crate) fn is_sum(expr: &Expr) -> bool
+    ensures { result ≡ read.is_sum expr.now }
+{
+    match expr {
+        Expr::Name(_, _) => true,
+        Expr::Number(_, _) => true,
+        Expr::Parenthesized(_, _) => true,
+        Expr::Prefix(_, _, _) => true,
+        Expr::Infix(op, _, _, _) => is_sum_operator(*op),
+        Expr::InType(_, _, _, _, _) => false,
+        Expr::InRange(_, _, _, _, _) => false,
     }
 }

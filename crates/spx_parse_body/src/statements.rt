@@ -394,15 +394,14 @@ fn for_scheme(alloc: Global, cursor: &mut Cursor<'_>, levels: u32) -> Result<Sch
     let is_reverse = direction(cursor)?;
     let type_name = type_below(alloc, cursor, levels)?;
     let bounds = optional_bounds(alloc, cursor, levels)?;
-    let count = Count {
+    Ok(Scheme::For(Count {
         place,
         name: subject.into_inner(),
         word,
         is_reverse,
         type_name: type_name.into_inner(),
         bounds,
-    };
-    Ok(Scheme::For(Boxed::new(alloc, count)?))
+    }))
 }
 
 // scheme = [while_scheme | for_scheme]

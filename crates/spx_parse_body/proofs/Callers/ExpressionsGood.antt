@@ -1,7 +1,6 @@
 -- The readers of names and expressions keep the laws of readers.
 use Rattle.std.specs.Prelude.{⊤}
 use Rattle.std.proofs.Common.{◌≡◌, inl, inr, ℕ, zero, suc, ◌+◌, ◌-◌, ◌≤◌, ◌<◌, max, Bool, true, false, List, [], ◌∷◌, ◌++◌, map, length, Option, Some, None, Ok, Err, refl, sym, ap, ap₂, subst, ◌∙◌, append_assoc, arith}
-use Rattle.std.proofs.lemmas.List.{append-nil}
 use Rattle.spx_text.specs.declared.place.Place.{Place}
 use Rattle.spx_tree.specs.declared.token.Kind.{Kind}
 use Rattle.spx_tree.specs.declared.token.Kind.TheVariants as k
@@ -15,18 +14,22 @@ use Rattle.spx_tree.specs.declared.expression.Layer.{Layer}
 use Rattle.spx_tree.specs.declared.expression.Layer.TheVariants as layer
 use Rattle.spx_tree.specs.declared.expression.Arguments.{Arguments}
 use Rattle.spx_tree.specs.declared.expression.Arguments.TheVariants as arguments_as
+use Rattle.spx_tree.specs.declared.expression.ChoiceForm.{ChoiceForm}
+use Rattle.spx_tree.specs.declared.expression.ChoiceList.{ChoiceList}
+use Rattle.spx_tree.specs.declared.expression.ChoiceList.TheVariants as choice_list
+use Rattle.spx_tree.specs.declared.expression.Aggregate.{Aggregate}
+use Rattle.spx_tree.specs.declared.expression.Aggregate.TheVariants as aggregate_as
 use Rattle.spx_tree.specs.declared.expression.NameStep.TheVariants as step
 use Rattle.spx_tree.specs.declared.expression.Path.{Path}
 use Rattle.spx_tree.specs.declared.expression.Name.{Name}
-use Rattle.spx_tree.specs.declared.expression.Expr.{Expr, Expr-F, out-Expr}
+use Rattle.spx_tree.specs.declared.expression.Expr.{Expr, Expr-F}
 use Rattle.spx_tree.specs.declared.expression.Expr.TheVariants as expr
-use Rattle.spx_tree.specs.declared.expression.Expr.TheVariants.{outs-Number, outs-Name, outs-Parenthesized, outs-Prefix, outs-Infix, outs-InType, outs-InRange}
+use Rattle.spx_tree.specs.declared.expression.Expr.TheVariants.{outs-Number, outs-Parenthesized, outs-Prefix, outs-Infix, outs-InType, outs-InRange}
 use Rattle.spx_tree.specs.Form.{Form, ItsPlace, keeps, bare, placed}
 use Rattle.spx_tree.specs.Form.{named as named_form}
 use Rattle.spx_tree.specs.Goes.{Expected}
-use Rattle.spx_tree.specs.Written.{annotation, written_at, sign_kind, operator_kind, second_word, written_operator, written_member, written_path, written_name, written_expr}
-use Rattle.spx_tree.specs.Grammar.{layer_of, layer_before, layer_in, rank, right_layer, operand_layer, FitsLeft, LeftFits, layers_of, IsName, OfLayer, IsExpr, IsCondition, IsPredicate}
-use Rattle.spx_tree.proofs.WrittenLevels.{written_expr_level, spelled_expr}
+use Rattle.spx_tree.specs.Written.{annotation, optional, choice_takes, association_takes, written_form, written_association, written_at, sign_kind, operator_kind, second_word, written_operator, written_member, written_path, written_name, written_expr}
+use Rattle.spx_tree.specs.Grammar.{IfThere, IsChoiceList, layers_of_choice, layers_of_association, layer_of, layer_before, rank, right_layer, operand_layer, FitsLeft, LeftFits, layers_of, IsName, OfLayer, IsExpr, IsCondition, IsPredicate}
 use Rattle.spx_parse_body.specs.declared.tall.Tall.{Tall}
 use Rattle.spx_parse_body.specs.declared.names.Parts.{Parts}
 use Rattle.spx_parse_body.specs.declared.names.TallName.{TallName}
@@ -36,16 +39,18 @@ use Rattle.spx_cursor.specs.declared.operators.Chain.{Chain}
 use Rattle.spx_cursor.specs.declared.operators.Chain.TheVariants as chain
 use Rattle.spx_cursor.specs.declared.operators.Relator.{Relator}
 use Rattle.spx_cursor.specs.declared.operators.Relator.TheVariants as relators
-use Rattle.spx_cursor.specs.Reading.{Reader, ◌>>◌, pure, refuse, peek, is_kind, sees, expect, taking}
+use Rattle.spx_cursor.specs.Reading.{Reader, ◌>>=◌, ◌>>◌, pure, refuse, peek, is_kind, sees, expect, taking, if_seen}
 use Rattle.spx_cursor.specs.Operators.{sign_of, abs_or_not, power_of, relator_of, logical, connective_of, last_layer, short_circuit, goes_on, second, whole_by, whole_operator}
-use Rattle.spx_parse_body.specs.Expressions.{leaf, enclosed, prefixed, joined, in_type, in_range, plain_name, identifier_in, literal, no_parts, with_part, with_named, one_part, all_named, root_name, with_step, name_alone, step_of, in_parentheses, part_step, more_parts, association, named_part, named_step, more_named, positional, named, named_by, arguments_by, arguments, selection, application, qualification, attribute, quotation_by, quotation, entry, step_read, name_step_by, name_step, name_steps, tall_name, name_primary, primary_by, primary, operated, joined_by, power_by, power, factor_by, factor, step_by, chain_step, chained, term, signed_by, signed, sum, type_by, member_by, member, inside, outside, relation_by, relation, combined, opening_by, opening, combination_by, combination, connection_by, connection, read, below, at_layer, name, expression, predicate, expression_at, predicate_after, simple_expression, expression_below, simple_expression_below, IsExprAt}
-use Rattle.spx_parse_body.proofs.Callers.Heights.{tops, height, name_height, Layered, IsUpTo, IsPart, Is, enclosed_is, prefixed_is, infix_is, in_type_is, in_range_is, number_is, name_is, infix_has, of_layered, parts_within}
-use Rattle.spx_parse_body.proofs.Callers.Names.{spelled, IsTall, text_of, name_text, spelled_name, IsTallName, root_fit, step_text, step_fit, plain_is, alone_text, spelled_parts, spelled_named, spelled_association, IsParts, AreNamed, more_part_text, more_part_fit, first_part_text, first_part_fit, more_named_text, more_named_fit, first_named_text, first_named_fit, spelled_arguments, AreArguments, positional_fit, named_fit, one_fit}
-use Rattle.spx_parse_body.proofs.Callers.Lawful.{Ends, Any, Sees, Always, ends_here}
+use Rattle.spx_parse_body.specs.Expressions.{is_sum, no_items, with_item, group_step, single_choice, range_choice, with_value, one_aggregate, choice_by, choice_after, choice, more_choices, choices_after, component_after, others_after, component_by, component, more_components, named_aggregate, positional_aggregate, chosen_by, aggregate_by, aggregate_of, aggregate_after, aggregate, leaf, enclosed, prefixed, joined, in_type, in_range, plain_name, identifier_in, literal, no_parts, with_part, with_named, one_part, all_named, root_name, with_step, name_alone, step_of, in_parentheses, part_step, more_parts, association, named_part, named_step, more_named, positional, named, named_by, arguments_by, arguments, selection, application, qualification, attribute, quotation_by, quotation, entry, step_read, name_step_by, name_step, name_steps, tall_name, name_primary, primary_by, primary, operated, joined_by, power_by, power, factor_by, factor, step_by, chain_step, chained, term, signed_by, signed, sum, type_by, member_by, member, inside, outside, relation_by, relation, combined, opening_by, opening, combination_by, combination, connection_by, connection, read, below, at_layer, name, expression, predicate, expression_at, predicate_after, simple_expression, expression_below, simple_expression_below, IsExprAt}
+use Rattle.spx_parse_body.proofs.Callers.Heights.{tops, height, name_height, Layered, Is, enclosed_is, prefixed_is, infix_is, in_type_is, in_range_is, number_is, name_is, infix_has, of_layered, parts_within}
+use Rattle.spx_parse_body.proofs.Callers.Names.{choice_length, association_length, spelled, IsTall, text_of, name_text, spelled_name, IsTallName, root_fit, step_text, step_fit, plain_is, alone_text, spelled_parts, spelled_named, spelled_association, IsParts, AreNamed, more_part_text, more_part_fit, first_part_text, first_part_fit, more_named_text, more_named_fit, first_named_text, first_named_fit, spelled_arguments, AreArguments, positional_fit, named_fit, one_fit}
+use Rattle.spx_parse_body.proofs.Callers.Groups.{sum_tall, Unasked, FitsChoice, FitChoices, spelled_choice, spelled_choices, single_text, both_text, single_fit, both_fit, FitsComponent, spelled_component, others_text, component_text, others_fit, component_fit, spelled_aggregate, FitsAggregate, named_aggregate_fit, positional_aggregate_fit, one_aggregate_fit}
+use Rattle.spx_parse_body.proofs.Callers.GroupsGood.{group_shrinks, group_passes, group_starts, first_good}
+use Rattle.spx_parse_body.proofs.Callers.Lawful.{Ends, Any, Sees, Always, just, ends_here}
 use Rattle.spx_parse_body.proofs.Callers.Loops.{Shrinks}
 use Rattle.spx_parse_body.proofs.Callers.Shaped.{kind_self}
-use Rattle.spx_parse_body.proofs.Callers.Good.{Good, no_level, Turn, Case, absent, present, good_before, good_bind, good_pure, good_refuse, good_given, good_fewer, good_weaken, good_expect, good_expect_place, good_identifier, good_choose, good_option, good_as, good_then, good_loop, shrinks, Starts, starts_bind, starts_then, starts_given, starts_before, starts_fewer, starts_loop, starts_expect, starts_identifier, starts_number, starts_open, starts_place}
-use Rattle.spx_parse_body.proofs.Callers.Separated.{sees_kind, next_starts}
+use Rattle.spx_parse_body.proofs.Callers.Good.{Good, Starts, Passes, no_level, Turn, Case, absent, present, good_before, good_bind, good_pure, good_refuse, good_given, good_fewer, good_weaken, good_expect, good_expect_place, good_identifier, good_choose, good_option, good_as, good_then, good_loop, shrinks, passes_choose, passes_then, starts_past, starts_choose, starts_bind, starts_then, starts_given, starts_before, starts_fewer, starts_loop, starts_expect, starts_identifier, starts_number, starts_open, starts_place}
+use Rattle.spx_parse_body.proofs.Callers.Separated.{sees_kind, next_starts, good_if_seen}
 use Rattle.spx_parse_body.proofs.Callers.Operators.{op_placed, sign_placed, sign_is, word_is, power_is, relator_is, connective_is, Opens, logical_is, Completes, short_circuit_is, chain_layer, chain_is, CanLead, leads, leads_again}
 
 -- ---- what nodes are written with, and what they are
@@ -292,6 +297,165 @@ module _ (marked : Bool) (below below' : Layer → Reader Tall) (levels : ℕ) (
       good_bind (good_given (λ l. l) (λ l w. tt) (good layer.Expression)) (λ first.
       good_option (peek marked) (λ t xs ys. refl) (one_part first) (arguments_by marked below levels first) (arguments_by marked below' (suc levels) first) refl refl (arguments_case first))
 
+  -- ---- aggregates
+
+  -- the first sum of a choice
+  abbrev IsLow : Tall → Type 0
+  IsLow low = IsTall (levels - 1) layer.Sum low
+
+  both_starts : {P : Type 0} (low : Tall)
+      → Starts (0 < levels) (P × IsLow low) (spelled_choice marked) (FitsChoice levels) (spelled marked low) (Sees (peek marked) (Some k.DoubleDot)) (choice_by marked below levels low (Some k.DoubleDot)) (choice_by marked below' (suc levels) low (Some k.DoubleDot))
+  both_starts low =
+      starts_bind (starts_expect marked k.DoubleDot (λ fs here. here) refl) (λ u.
+      good_bind (good_given (λ l. l) (λ l w. tt) (good layer.Sum)) (λ high.
+      good_pure (range_choice low high) (λ l w. both_text marked low high) (λ l w. both_fit levels l low high w.0.0.1 w.1)))
+
+  choice_case : {P : Type 0} (low : Tall) (kind : Option Kind)
+      → Case (0 < levels) (P × IsLow low) (spelled_choice marked) (FitsChoice levels) (spelled marked low) (Sees (peek marked) kind) (single_choice low) (choice_by marked below levels low kind) (choice_by marked below' (suc levels) low kind)
+  choice_case low (Some k.DoubleDot) = present (both_starts low)
+  choice_case low _ = absent refl refl (λ l w. single_text marked low) (λ l w. single_fit levels l low w.1)
+
+  choice_after_good : {P : Type 0} (low : Tall) → Good (0 < levels) (P × IsLow low) (spelled_choice marked) (FitsChoice levels) (spelled marked low) Any (choice_after marked below levels low) (choice_after marked below' (suc levels) low)
+  unfolding choice_after
+  choice_after_good low = good_option (peek marked) (λ t xs ys. refl) (single_choice low) (choice_by marked below levels low) (choice_by marked below' (suc levels) low) refl refl (choice_case low)
+
+  choice_passes : {on : List Form → Type 0} (low : Tall) → Passes (0 < levels) on (single_choice low) (choice_after marked below levels low) (choice_after marked below' (suc levels) low)
+  unfolding choice_after
+  choice_passes low = passes_choose (peek marked) (λ t xs ys. refl) (single_choice low) (choice_by marked below levels low) (choice_by marked below' (suc levels) low) (choice_case {P = ⊤} low)
+
+  choice_range : {P : Type 0} (low : Tall) → Starts (0 < levels) (P × IsLow low) (spelled_choice marked) (FitsChoice levels) (spelled marked low) (Sees (peek marked) (Some k.DoubleDot)) (choice_after marked below levels low) (choice_after marked below' (suc levels) low)
+  unfolding choice_after
+  choice_range {P} low =
+      starts_choose (peek marked) (λ t xs ys. refl) (choice_by marked below levels low) (choice_by marked below' (suc levels) low) (choice_after_good low)
+      (λ fs here. subst (λ (kind : Option Kind). Starts (0 < levels) (P × IsLow low) (spelled_choice marked) (FitsChoice levels) (spelled marked low) (Sees (peek marked) kind) (choice_by marked below levels low kind) (choice_by marked below' (suc levels) low kind)) (sym here) (both_starts low))
+
+  choice_good : {P : Type 0} → Good (0 < levels) P (spelled_choice marked) (FitsChoice levels) [] Any (choice marked below levels) (choice marked below' (suc levels))
+  unfolding choice
+  choice_good = good_bind (good_given (λ l. l) (λ l w. tt) (good layer.Sum)) choice_after_good
+
+  pub choices_shrink : 0 < levels → Shrinks (sees marked k.Bar) (group_step marked k.Bar (choice marked below levels))
+  choices_shrink some = group_shrinks marked k.Bar refl choice_takes (written_form marked) Unasked layers_of_choice choice_length levels choice_good some
+
+  more_choices_good : {P : Type 0} (x : ChoiceForm × Parts)
+      → Good (0 < levels) (P × FitsChoice levels x) (spelled_choices marked) (FitChoices levels) (spelled_choice marked x) Any (more_choices marked below levels (with_item no_items x)) (more_choices marked below' (suc levels) (with_item no_items x))
+  unfolding more_choices
+  more_choices_good x = first_good marked k.Bar refl choice_takes (written_form marked) Unasked layers_of_choice choice_length levels choice_good x
+
+  more_choices_starts : {P : Type 0} (s : List ChoiceForm × Parts)
+      → Starts (0 < levels) (P × FitChoices levels s) (spelled_choices marked) (FitChoices levels) (spelled_choices marked s) (Sees (peek marked) (Some k.Bar)) (more_choices marked below levels s) (more_choices marked below' (suc levels) s)
+  unfolding more_choices
+  more_choices_starts s = group_starts marked k.Bar refl choice_takes (written_form marked) Unasked layers_of_choice choice_length levels choice_good s
+
+  more_choices_passes : {on : List Form → Type 0} (s : List ChoiceForm × Parts) → Passes (0 < levels) on s (more_choices marked below levels s) (more_choices marked below' (suc levels) s)
+  unfolding more_choices
+  more_choices_passes s = group_passes marked k.Bar refl choice_takes (written_form marked) Unasked layers_of_choice choice_length levels choice_good s
+
+  choices_after_good : {P : Type 0} (first : Tall) → Good (0 < levels) (P × IsLow first) (spelled_choices marked) (FitChoices levels) (spelled marked first) Any (choices_after marked below levels first) (choices_after marked below' (suc levels) first)
+  unfolding choices_after
+  choices_after_good first = good_then (choice_after_good first) more_choices_good
+
+  value_good : {P : Type 0} (x : List ChoiceForm × Parts)
+      → Good (0 < levels) (P × FitChoices levels x) (spelled_component marked) (FitsComponent levels) (spelled_choices marked x) Any (association marked below levels >>= λ t. pure (with_value (choice_list.Choices x.0) x.1 t))
+      (association marked below' (suc levels) >>= λ t. pure (with_value (choice_list.Choices x.0) x.1 t))
+  value_good x = good_bind association_good (λ t. good_pure (with_value (choice_list.Choices x.0) x.1 t) (λ l w. component_text marked levels x t w.0.1) (λ l w. component_fit levels l x t w.0.1 w.1))
+
+  value_starts : {P : Type 0} (x : List ChoiceForm × Parts)
+      → Starts (0 < levels) (P × FitChoices levels x) (spelled_component marked) (FitsComponent levels) (spelled_choices marked x) (Sees (peek marked) (Some k.Arrow)) (association marked below levels >>= λ t. pure (with_value (choice_list.Choices x.0) x.1 t))
+      (association marked below' (suc levels) >>= λ t. pure (with_value (choice_list.Choices x.0) x.1 t))
+  value_starts x = starts_bind (association_starts (λ fs here. here)) (λ t. good_pure (with_value (choice_list.Choices x.0) x.1 t) (λ l w. component_text marked levels x t w.0.1) (λ l w. component_fit levels l x t w.0.1 w.1))
+
+  component_after_good : {P : Type 0} (first : Tall) → Good (0 < levels) (P × IsLow first) (spelled_component marked) (FitsComponent levels) (spelled marked first) Any (component_after marked below levels first) (component_after marked below' (suc levels) first)
+  unfolding component_after
+  component_after_good first = good_then (choices_after_good first) value_good
+
+  -- an association after its first sum, where this form comes next
+  abbrev StartsAt : Kind → Type 0 → Tall → Type 0
+  StartsAt kind P first = Starts (0 < levels) (P × IsLow first) (spelled_component marked) (FitsComponent levels) (spelled marked first) (Sees (peek marked) (Some kind)) (component_after marked below levels first) (component_after marked below' (suc levels) first)
+
+  arrow_starts : {P : Type 0} (first : Tall) → StartsAt k.Arrow P first
+  unfolding component_after choices_after
+  arrow_starts {P} first =
+      let s = with_item no_items (single_choice first) in
+      starts_past s (good_fewer (λ fs here. tt) (good_then (choice_after_good first) more_choices_good))
+      (passes_then (single_choice first) (good_fewer (λ fs here. tt) (choice_after_good {P = P} first)) (choice_passes first) more_choices_good s (more_choices_passes s)) value_good (value_starts {P = ⊤} s).takes (value_starts {P = ⊤} s).takes'
+
+  bar_starts : {P : Type 0} (first : Tall) → StartsAt k.Bar P first
+  unfolding component_after choices_after
+  bar_starts {P} first =
+      let s = with_item no_items (single_choice first) in
+      starts_then (starts_past (single_choice first) (good_fewer (λ fs here. tt) (choice_after_good first)) (choice_passes first) more_choices_good (more_choices_starts {P = ⊤} s).takes (more_choices_starts {P = ⊤} s).takes') value_good
+
+  dots_starts : {P : Type 0} (first : Tall) → StartsAt k.DoubleDot P first
+  unfolding component_after choices_after
+  dots_starts first = starts_then (starts_then (choice_range first) more_choices_good) value_good
+
+  others_after_good : {P : Type 0} → Good (0 < levels) P (spelled_component marked) (FitsComponent levels) (bare marked k.Others ∷ []) Any (others_after marked below levels) (others_after marked below' (suc levels))
+  unfolding others_after
+  others_after_good = good_bind association_good (λ t. good_pure (with_value choice_list.Others no_parts t) (λ l w. others_text marked t) (λ l w. others_fit levels l t w.1))
+
+  component_case : {P : Type 0} (others : Option ⊤)
+      → Good (0 < levels) P (spelled_component marked) (FitsComponent levels) (optional (just marked k.Others) others) Any (component_by marked below levels others) (component_by marked below' (suc levels) others)
+  component_case (Some u) = others_after_good
+  component_case None = good_bind (good_given (λ l. l) (λ l w. tt) (good layer.Sum)) component_after_good
+
+  others_good : {P : Type 0} → Good (0 < levels) P (optional (just marked k.Others)) (IfThere Always) [] Any (if_seen marked k.Others (expect marked k.Others)) (if_seen marked k.Others (expect marked k.Others))
+  others_good = good_if_seen (just marked k.Others) Always marked k.Others (starts_expect marked k.Others (sees_kind marked k.Others) refl)
+
+  component_good : {P : Type 0} → Good (0 < levels) P (spelled_component marked) (FitsComponent levels) [] Any (component marked below levels) (component marked below' (suc levels))
+  unfolding component
+  component_good {P} = good_bind (others_good {P = P}) (λ others. component_case {P = P × IfThere Always others} others)
+
+  pub components_shrink : 0 < levels → Shrinks (sees marked k.Comma) (group_step marked k.Comma (component marked below levels))
+  components_shrink some = group_shrinks marked k.Comma refl association_takes (written_association marked) IsChoiceList layers_of_association association_length levels component_good some
+
+  named_aggregate_good : {P : Type 0} (x : ChoiceList × Parts)
+      → Good (0 < levels) (P × FitsComponent levels x) (spelled_aggregate marked) (FitsAggregate levels) (spelled_component marked x) Any (named_aggregate marked below levels x) (named_aggregate marked below' (suc levels) x)
+  unfolding named_aggregate more_components
+  named_aggregate_good x =
+      good_then (first_good marked k.Comma refl association_takes (written_association marked) IsChoiceList layers_of_association association_length levels component_good x) (λ s.
+      good_pure (aggregate_as.Named s.0, s.1) (λ l w. refl) (λ l w. named_aggregate_fit levels s w.1))
+
+  positional_aggregate_starts : {P : Type 0} (first : Tall)
+      → Starts (0 < levels) (P × IsFirst first) (spelled_aggregate marked) (FitsAggregate levels) (spelled marked first) (Sees (peek marked) (Some k.Comma)) (positional_aggregate marked below levels first) (positional_aggregate marked below' (suc levels) first)
+  unfolding positional_aggregate
+  positional_aggregate_starts {P} first =
+      starts_before (sym (first_part_text marked first))
+      (starts_then (starts_given (λ l w. (w.0, first_part_fit levels l first w.1)) (parts_starts {P = P} (with_part no_parts first))) (λ parts.
+      good_pure (aggregate_as.Positional (length parts.exprs), parts) (λ l w. refl) (λ l w. positional_aggregate_fit levels parts w.1)))
+
+  one_aggregate_case : {P : Type 0} {on : List Form → Type 0} (first : Tall) {p p' : Reader (Aggregate × Parts)} → p ≡ pure (one_aggregate first) → p' ≡ pure (one_aggregate first)
+      → Case (0 < levels) (P × IsFirst first) (spelled_aggregate marked) (FitsAggregate levels) (spelled marked first) on (one_aggregate first) p p'
+  one_aggregate_case first e e' = absent e e' (λ l w. first_part_text marked first) (λ l w. one_aggregate_fit levels l first w.1)
+
+  -- a sum that is a choice
+  chosen_case : {P : Type 0} (kind : Kind) (first : Tall) → ((Q : Type 0) → StartsAt kind Q first) → (b : Bool) → is_sum first.expr ≡ b
+      → Case (0 < levels) (P × IsFirst first) (spelled_aggregate marked) (FitsAggregate levels) (spelled marked first) (Sees (peek marked) (Some kind)) (one_aggregate first) (chosen_by marked below levels first b) (chosen_by marked below' (suc levels) first b)
+  chosen_case {P} kind first s true e = present (starts_given (λ l w. (w.0, sum_tall (levels - 1) first e w.1)) (starts_then (s P) named_aggregate_good))
+  chosen_case kind first s false e = one_aggregate_case first refl refl
+
+  aggregate_case : {P : Type 0} (first : Tall) (kind : Option Kind)
+      → Case (0 < levels) (P × IsFirst first) (spelled_aggregate marked) (FitsAggregate levels) (spelled marked first) (Sees (peek marked) kind) (one_aggregate first) (aggregate_by marked below levels first kind) (aggregate_by marked below' (suc levels) first kind)
+  aggregate_case first (Some k.Comma) = present (positional_aggregate_starts first)
+  aggregate_case first (Some k.Arrow) = chosen_case k.Arrow first (λ Q. arrow_starts {P = Q} first) (is_sum first.expr) refl
+  aggregate_case first (Some k.Bar) = chosen_case k.Bar first (λ Q. bar_starts {P = Q} first) (is_sum first.expr) refl
+  aggregate_case first (Some k.DoubleDot) = chosen_case k.DoubleDot first (λ Q. dots_starts {P = Q} first) (is_sum first.expr) refl
+  aggregate_case first _ = one_aggregate_case first refl refl
+
+  aggregate_of_good : {P : Type 0} → Good (0 < levels) P (spelled_aggregate marked) (FitsAggregate levels) [] Any (aggregate_of marked below levels) (aggregate_of marked below' (suc levels))
+  unfolding aggregate_of
+  aggregate_of_good =
+      good_bind (good_given (λ l. l) (λ l w. tt) (good layer.Expression)) (λ first.
+      good_option (peek marked) (λ t xs ys. refl) (one_aggregate first) (aggregate_by marked below levels first) (aggregate_by marked below' (suc levels) first) refl refl (aggregate_case first))
+
+  aggregate_after_good : {P : Type 0} (others : Option ⊤)
+      → Good (0 < levels) P (spelled_aggregate marked) (FitsAggregate levels) (optional (just marked k.Others) others) Any (aggregate_after marked below levels others) (aggregate_after marked below' (suc levels) others)
+  aggregate_after_good (Some u) = good_then others_after_good named_aggregate_good
+  aggregate_after_good None = aggregate_of_good
+
+  aggregate_good : {P : Type 0} → Good (0 < levels) P (spelled_aggregate marked) (FitsAggregate levels) [] Any (aggregate marked below levels) (aggregate marked below' (suc levels))
+  unfolding aggregate
+  aggregate_good {P} = good_bind (others_good {P = P}) (λ others. aggregate_after_good {P = P × IfThere Always others} others)
+
   -- ---- names
 
   -- what is read after a name
@@ -340,14 +504,14 @@ module _ (marked : Bool) (below below' : Layer → Reader Tall) (levels : ℕ) (
   unfolding qualification
   qualification_starts n seen =
       starts_open marked k.LeftParenthesis seen levels 0 refl (λ w. omega arith) (λ w. quoted_ends n w.1) (λ place.
-      good_bind (good_given (λ l. l) (λ l w. tt) (good layer.Expression)) (λ t. good_bind (good_expect marked k.RightParenthesis) (λ u.
-      good_pure (with_step (step.Qualified place) (t.expr ∷ []) (t.height + 1) n)
-      (λ l w. flat (spelled_name marked n) (bare marked k.Apostrophe ∷ []) (placed marked k.LeftParenthesis place ∷ []) (spelled marked t) (bare marked k.RightParenthesis ∷ [])
-      ∙ step_text marked levels n (step.Qualified place) (t.expr ∷ []) (t.height + 1) w.0.0.0.1 ((w.0.1.layered, w.0.1.of_layer), tt))
-      (λ l w. let m = w.0.1.measured in let b = w.0.1.low in step_fit levels n (step.Qualified place) (t.expr ∷ []) (t.height + 1) w.0.0.0.1 tt ((w.0.1.layered, w.0.1.of_layer), tt) (omega arith) (omega arith)))))
+      good_bind aggregate_good (λ x. good_bind (good_expect marked k.RightParenthesis) (λ u.
+      good_pure (with_step (step.Qualified place x.0) x.1.exprs x.1.height n)
+      (λ l w. flat (spelled_name marked n) (bare marked k.Apostrophe ∷ []) (placed marked k.LeftParenthesis place ∷ []) (spelled_aggregate marked x) (bare marked k.RightParenthesis ∷ [])
+      ∙ step_text marked levels n (step.Qualified place x.0) x.1.exprs x.1.height w.0.0.0.1 w.0.1.parts.parts)
+      (λ l w. step_fit levels n (step.Qualified place x.0) x.1.exprs x.1.height w.0.0.0.1 w.0.1.fit w.0.1.parts.parts w.0.1.parts.measured w.0.1.parts.low))))
     where
-      flat : (a b c d e : List Form) → (((a ++ b) ++ c) ++ d) ++ e ≡ a ++ (b ++ (c ++ ((d ++ []) ++ e)))
-      flat a b c d e = ap (λ (x : List Form). (((a ++ b) ++ c) ++ x) ++ e) (sym (append-nil d)) ∙ simp append_assoc
+      flat : (a b c d e : List Form) → (((a ++ b) ++ c) ++ d) ++ e ≡ a ++ (b ++ (c ++ (d ++ e)))
+      flat a b c d e = simp append_assoc
 
   attribute_good : {L P : Type 0} (n : TallName) → Good L (P × IsTallName levels n) (spelled_name marked) (IsTallName levels) (spelled_name marked n ++ bare marked k.Apostrophe ∷ []) Any (attribute marked below levels n) (attribute marked below' (suc levels) n)
   unfolding attribute

@@ -1,5 +1,5 @@
 -- The forms of a name or an expression are read as that, whatever stands after them that does not go on with it.
-use Rattle.std.proofs.Common.{◌≡◌, ◌⊎◌, inl, inr, ℕ, zero, suc, ◌+◌, ◌-◌, ◌≤◌, ◌<◌, max, Bool, true, false, List, [], ◌∷◌, ◌++◌, map, length, Option, Some, None, Ok, refl, sym, ap, ap₂, subst, ◌∙◌, append_assoc, arith, ℤ}
+use Rattle.std.proofs.Common.{◌≡◌, ◌⊎◌, inl, inr, ℕ, zero, suc, ◌+◌, ◌-◌, ◌≤◌, ◌<◌, max, Bool, List, [], ◌∷◌, ◌++◌, map, Option, Some, None, Ok, refl, sym, ap, subst, ◌∙◌, append_assoc, arith, ℤ}
 use Rattle.spx_text.specs.declared.place.Place.{Place}
 use Rattle.spx_tree.specs.declared.token.Kind.{Kind}
 use Rattle.spx_tree.specs.declared.token.Kind.TheVariants as k
@@ -13,10 +13,10 @@ use Rattle.spx_tree.specs.declared.expression.Layer.{Layer}
 use Rattle.spx_tree.specs.declared.expression.Layer.TheVariants as layer
 use Rattle.spx_tree.specs.declared.expression.Path.{Path}
 use Rattle.spx_tree.specs.declared.expression.Name.{Name}
-use Rattle.spx_tree.specs.declared.expression.Expr.{Expr, Expr-F, out-Expr, map-Expr, fold-Expr, fold_out-Expr}
+use Rattle.spx_tree.specs.declared.expression.Expr.{Expr, Expr-F, out-Expr}
 use Rattle.spx_tree.specs.declared.expression.Expr.TheVariants as expr
 use Rattle.spx_tree.specs.declared.expression.Expr.TheVariants.{outs-Number, outs-Name, outs-Parenthesized, outs-Prefix, outs-Infix, outs-InType, outs-InRange}
-use Rattle.spx_tree.specs.Form.{Form, Kept, Nothing, Where, Spelled, Valued, placed, bare, named}
+use Rattle.spx_tree.specs.Form.{Form, Nothing, Where, Spelled, Valued, placed, bare}
 use Rattle.spx_tree.specs.declared.annotation.Predicate.{Predicate}
 use Rattle.spx_tree.specs.Written.{annotation, written_at, sign_kind, operator_kind, second_word, written_operator, written_member, written_steps, written_path, written_name, written_expr}
 use Rattle.spx_tree.specs.Grammar.{layer_of, layer_before, layer_in, rank, right_layer, operand_layer, IsOperation, HasOperator, FitsLeft, layers_of, IsName, OfLayer, IsExpr, IsCondition, IsPredicate}
@@ -27,16 +27,17 @@ use Rattle.spx_cursor.specs.declared.operators.Relator.{Relator}
 use Rattle.spx_cursor.specs.declared.operators.Relator.TheVariants as relators
 use Rattle.spx_cursor.specs.Reading.{Outcome, Reader, and_then, peek, sees}
 use Rattle.spx_cursor.specs.Operators.{sign_of, abs_or_not, power_of, multiplying, adding, relator_of, logical, connective_of, last_layer, if_then, if_else, same_logical, goes_on, second, whole_by, whole_operator}
-use Rattle.spx_parse_body.specs.Expressions.{joined, part_step, named_step, name_step, literal, in_parentheses, primary_by, primary, operated, joined_by, power_by, power, factor_by, factor, step_by, chain_step, chained, term, signed_by, signed, sum, type_by, member_by, member, inside, outside, relation_by, relation, combined, opening_by, opening, combination_by, combination, connection_by, connection, read, below, at_layer, name, expression, predicate, expression_at, predicate_after, simple_expression, expression_below, simple_expression_below, IsExprAt, plain_name, name_at}
+use Rattle.spx_parse_body.specs.Expressions.{joined, group_step, choice, component, part_step, named_step, name_step, literal, in_parentheses, primary_by, primary, operated, joined_by, power_by, power, factor_by, factor, step_by, chain_step, chained, term, signed_by, signed, sum, type_by, member_by, member, inside, outside, relation_by, relation, combined, opening_by, opening, combination_by, combination, connection_by, connection, read, below, at_layer, name, expression, predicate, expression_at, predicate_after, simple_expression, expression_below, simple_expression_below, IsExprAt, plain_name, name_at}
 use Rattle.spx_parse_body.specs.Expressions.{in_type as in_type_tall}
-use Rattle.spx_parse_body.proofs.Callers.Heights.{tops, height, name_height, infix_height, prefix_height, parenthesized_height, in_type_height, in_range_height, rank_low, IsUpTo, Layered, IsPart, Operands, infix_parts, prefix_parts, enclosed_parts, in_type_parts, in_range_parts, name_parts, infix_layer, prefix_layer, in_type_layer, in_range_layer, name_layer, infix_has, number_height, by_form, by_kind, by_height, of_layer_low, layered_of, parts_of, parts_low}
+use Rattle.spx_parse_body.proofs.Callers.Heights.{height, name_height, infix_height, prefix_height, parenthesized_height, in_type_height, in_range_height, rank_low, IsUpTo, Layered, infix_parts, prefix_parts, enclosed_parts, in_type_parts, in_range_parts, name_parts, infix_layer, prefix_layer, in_type_layer, in_range_layer, name_layer, infix_has, number_height, by_form, by_kind, by_height, of_layer_low, layered_of, parts_of, parts_low}
 use Rattle.spx_parse_body.proofs.Callers.Names.{text_of, name_text}
 use Rattle.spx_parse_body.proofs.Callers.ExpressionsGood.{enclosed_text, prefixed_text, infix_text, in_type_text, in_range_text}
-use Rattle.spx_parse_body.proofs.Callers.NamesReach.{measure, strength, Free, peek_here, Again, bare_past, bare_free, name_reached, primary_reached}
+use Rattle.spx_parse_body.proofs.Callers.Fronts.{peek_here, front_kind, number_front, name_front_is, enclosed_front, prefix_front, infix_front, infix_less, by_left, front, front_no_second}
+use Rattle.spx_parse_body.proofs.Callers.NamesReach.{measure, strength, Free, Again, LowAgain, bare_past, bare_free, name_reached, primary_reached}
 use Rattle.spx_parse_body.proofs.Callers.Loops.{Shrinks}
 use Rattle.spx_parse_body.proofs.Callers.Reaches.{Reaches, reaches_bind, reaches_pure, reaches_choose, reaches_deeper, reaches_expect, reaches_expect_place, reaches_number, reaches_is, peek_front, loop_turn, loop_over}
 use Rattle.spx_parse_body.proofs.Callers.Operators.{chain_layer}
-use Rattle.spx_parse_body.proofs.Callers.ExpressionsGood.{below_good, chain_shrinks, parts_shrinks}
+use Rattle.spx_parse_body.proofs.Callers.ExpressionsGood.{below_good, chain_shrinks, parts_shrinks, choices_shrink, components_shrink}
 use Rattle.spx_parse_body.proofs.Callers.ExpressionsGood.{named_shrinks as formals_shrink, name_shrinks as steps_shrink}
 
 -- ---- operators
@@ -191,127 +192,6 @@ some_before : (o : PrefixOp) → 0 < rank (layer_before o)
 some_before sign.Plus = omega arith
 some_before _ = omega arith
 
--- ---- what expressions begin with
-
-front_step : Expr-F Kind → Kind
-front_step (Expr-F.Number value place) = k.Number
-front_step (Expr-F.Name path parts) = k.Identifier
-front_step (Expr-F.Parenthesized place inner) = k.LeftParenthesis
-front_step (Expr-F.Prefix o place operand) = sign_kind o
-front_step (Expr-F.Infix o place left right) = left
-front_step (Expr-F.InType o place tested path parts) = tested
-front_step (Expr-F.InRange o place tested low high) = tested
-
-front_kind : Expr → Kind
-front_kind = fold-Expr Kind front_step
-
-front_of : (x : Expr) (y : Expr-F Expr) → out-Expr x ≡ y → front_kind x ≡ front_step (map-Expr Expr Kind front_kind y)
-unfolding front_kind front_step
-front_of x y e = fold_out-Expr Kind front_step x ∙ ap (λ (z : Expr-F Expr). front_step (map-Expr Expr Kind front_kind z)) e
-
-number_front : (value : ℤ) (place : Place) → front_kind (expr.Number value place) ≡ k.Number
-unfolding front_step
-number_front value place = front_of (expr.Number value place) (Expr-F.Number value place) (outs-Number value place)
-
-name_front_is : (path : Path) (parts : List Expr) → front_kind (expr.Name path parts) ≡ k.Identifier
-unfolding front_step
-name_front_is path parts = front_of (expr.Name path parts) (Expr-F.Name path parts) (outs-Name path parts)
-
-enclosed_front : (place : Place) (inner : Expr) → front_kind (expr.Parenthesized place inner) ≡ k.LeftParenthesis
-unfolding front_step
-enclosed_front place inner = front_of (expr.Parenthesized place inner) (Expr-F.Parenthesized place inner) (outs-Parenthesized place inner)
-
-prefix_front : (o : PrefixOp) (place : Place) (operand : Expr) → front_kind (expr.Prefix o place operand) ≡ sign_kind o
-unfolding front_step
-prefix_front o place operand = front_of (expr.Prefix o place operand) (Expr-F.Prefix o place operand) (outs-Prefix o place operand)
-
-infix_front : (o : InfixOp) (place : Place) (left right : Expr) → front_kind (expr.Infix o place left right) ≡ front_kind left
-unfolding front_step
-infix_front o place left right = front_of (expr.Infix o place left right) (Expr-F.Infix o place left right) (outs-Infix o place left right)
-
-in_type_front : (o : MemberOp) (place : Place) (tested : Expr) (path : Path) (parts : List Expr) → front_kind (expr.InType o place tested path parts) ≡ front_kind tested
-unfolding front_step
-in_type_front o place tested path parts = front_of (expr.InType o place tested path parts) (Expr-F.InType o place tested path parts) (outs-InType o place tested path parts)
-
-in_range_front : (o : MemberOp) (place : Place) (tested low high : Expr) → front_kind (expr.InRange o place tested low high) ≡ front_kind tested
-unfolding front_step
-in_range_front o place tested low high = front_of (expr.InRange o place tested low high) (Expr-F.InRange o place tested low high) (outs-InRange o place tested low high)
-
--- the left operands are less high
-infix_less : (o : InfixOp) (place : Place) (left right : Expr) → height left < height (expr.Infix o place left right)
-infix_less o place left right = let h = infix_height o place left right in omega arith
-
-in_type_less : (o : MemberOp) (place : Place) (tested : Expr) (path : Path) (parts : List Expr) → height tested < height (expr.InType o place tested path parts)
-in_type_less o place tested path parts = let h = in_type_height o place tested path parts in omega arith
-
-in_range_less : (o : MemberOp) (place : Place) (tested low high : Expr) → height tested < height (expr.InRange o place tested low high)
-in_range_less o place tested low high = let h = in_range_height o place tested low high in omega arith
-
--- what holds of an expression where it holds of all that are less high, by its form
-module _ (Q : Expr → Type 0)
-    (number : (value : ℤ) (place : Place) → Q (expr.Number value place)) (name : (path : Path) (parts : List Expr) → Q (expr.Name path parts)) (enclosed : (place : Place) (inner : Expr) → Q (expr.Parenthesized place inner))
-    (prefixed : (o : PrefixOp) (place : Place) (operand : Expr) → Q (expr.Prefix o place operand)) (operation : (o : InfixOp) (place : Place) (left right : Expr) → Q left → Q (expr.Infix o place left right))
-    (in_type : (o : MemberOp) (place : Place) (tested : Expr) (path : Path) (parts : List Expr) → Q tested → Q (expr.InType o place tested path parts)) (in_range : (o : MemberOp) (place : Place) (tested low high : Expr) → Q tested → Q (expr.InRange o place tested low high)) where
-  abbrev Rest : Expr → Type 0
-  Rest x = ((z : Expr) → height z < height x → Q z) → Q x
-
-  by_left : (x : Expr) → Q x
-  by_left = by_height Q (by_form Rest (λ value place rest. number value place) (λ path parts rest. name path parts) (λ place inner rest. enclosed place inner) (λ o place operand rest. prefixed o place operand)
-      (λ o place left right rest. operation o place left right (rest left (infix_less o place left right)))
-      (λ o place tested path parts rest. in_type o place tested path parts (rest tested (in_type_less o place tested path parts)))
-      (λ o place tested low high rest. in_range o place tested low high (rest tested (in_range_less o place tested low high))))
-
--- forms begin with this kind, whatever stands after them
-abbrev BeginsSo : Bool → List Form → Kind → Type 0
-BeginsSo marked fs kind = (zs : List Form) → peek marked (fs ++ zs) ≡ Some kind
-
-begins_by : (marked : Bool) (x : Expr) (fs : List Form) (kind : Kind) → written_expr marked x ≡ fs → front_kind x ≡ kind → BeginsSo marked fs kind → BeginsSo marked (written_expr marked x) (front_kind x)
-begins_by marked x fs kind text is h zs = ap (λ (us : List Form). peek marked (us ++ zs)) text ∙ h zs ∙ ap (λ (j : Kind). Some j) (sym is)
-
-begins_more : (marked : Bool) (a b : List Form) (kind : Kind) → BeginsSo marked a kind → BeginsSo marked (a ++ b) kind
-begins_more marked a b kind h zs = ap (peek marked) (append_assoc a b zs) ∙ h (b ++ zs)
-
-front : (marked : Bool) (x : Expr) → BeginsSo marked (written_expr marked x) (front_kind x)
-front marked = by_left (λ x. BeginsSo marked (written_expr marked x) (front_kind x))
-    (λ value place. begins_by marked (expr.Number value place) _ k.Number (text_of marked (expr.Number value place) (Expr-F.Number value place) (outs-Number value place)) (number_front value place) (λ zs. peek_here marked k.Number (Valued value place) zs))
-    (λ path parts. begins_by marked (expr.Name path parts) _ k.Identifier (name_text marked path parts) (name_front_is path parts) (λ zs. peek_here marked k.Identifier (Spelled path.root.text path.root.place) (written_steps marked path.steps (map (written_expr marked) parts) ++ zs)))
-    (λ place inner. begins_by marked (expr.Parenthesized place inner) _ k.LeftParenthesis (enclosed_text marked place inner) (enclosed_front place inner) (λ zs. peek_here marked k.LeftParenthesis (Where place) ((written_expr marked inner ++ bare marked k.RightParenthesis ∷ []) ++ zs)))
-    (λ o place operand. begins_by marked (expr.Prefix o place operand) _ (sign_kind o) (prefixed_text marked o place operand) (prefix_front o place operand) (λ zs. peek_here marked (sign_kind o) (Where place) (written_expr marked operand ++ zs)))
-    (λ o place left right h. begins_by marked (expr.Infix o place left right) _ (front_kind left) (infix_text marked o place left right) (infix_front o place left right) (begins_more marked (written_expr marked left) _ (front_kind left) h))
-    (λ o place tested path parts h. begins_by marked (expr.InType o place tested path parts) _ (front_kind tested) (in_type_text marked o place tested path parts) (in_type_front o place tested path parts) (begins_more marked (written_expr marked tested) _ (front_kind tested) h))
-    (λ o place tested low high h. begins_by marked (expr.InRange o place tested low high) _ (front_kind tested) (in_range_text marked o place tested low high) (in_range_front o place tested low high) (begins_more marked (written_expr marked tested) _ (front_kind tested) h))
-
--- what holds of the kinds that expressions begin with
-front_holds : (R : Kind → Type 0) → R k.Number → R k.Identifier → R k.LeftParenthesis → ((o : PrefixOp) → R (sign_kind o)) → (x : Expr) → R (front_kind x)
-front_holds R a b c d = by_left (λ x. R (front_kind x))
-    (λ value place. subst R (sym (number_front value place)) a) (λ path parts. subst R (sym (name_front_is path parts)) b) (λ place inner. subst R (sym (enclosed_front place inner)) c) (λ o place operand. subst R (sym (prefix_front o place operand)) (d o))
-    (λ o place left right h. subst R (sym (infix_front o place left right)) h) (λ o place tested path parts h. subst R (sym (in_type_front o place tested path parts)) h) (λ o place tested low high h. subst R (sym (in_range_front o place tested low high)) h)
-
--- no expression begins with the second word of an operator
-abbrev NoSecond : Kind → Type 0
-NoSecond kind = (if_then (Some kind) ≡ None) × (if_else (Some kind) ≡ None)
-
-sign_no_second : (o : PrefixOp) → NoSecond (sign_kind o)
-sign_no_second sign.Plus = (refl, refl)
-sign_no_second _ = (refl, refl)
-
-front_no_second : (x : Expr) → NoSecond (front_kind x)
-front_no_second = front_holds NoSecond (refl, refl) (refl, refl) (refl, refl) sign_no_second
-
-sign_no_others : (o : PrefixOp) → sign_kind o ≡ k.Others → ⊥
-sign_no_others sign.Plus e = cc
-sign_no_others _ e = cc
-
-front_no_others : (x : Expr) → front_kind x ≡ k.Others → ⊥
-front_no_others = front_holds (λ kind. kind ≡ k.Others → ⊥) (λ e. cc) (λ e. cc) (λ e. cc) sign_no_others
-
--- no expression begins with the word "others"
-pub not_others : (marked : Bool) (x : Expr) (zs : List Form) → peek marked (written_expr marked x ++ zs) ≡ Some k.Others → ⊥
-not_others marked x zs e = front_no_others x (some_is (front_kind x) k.Others (sym (front marked x zs) ∙ e))
-  where
-    some_is : (a b : Kind) → Some a ≡ Some b → a ≡ b
-    some_is a b e = cc
-
 -- what stands on the left is of no later layer
 left_low : (a : Layer) (o : InfixOp) (x : Expr) → rank a ≤ 4 → FitsLeft a o x → rank (layer_in x) ≤ rank a
 left_low layer.Primary o x h f = absurd f
@@ -378,7 +258,9 @@ abbrev Told : Bool → Reader Tall → ℕ → Layer → Expr → Type 0
 Told marked p levels layer x = (fs zs : List Form) → height x ≤ levels → Layered x → rank (layer_in x) ≤ rank layer → Free layer (peek marked zs) → fs ≡ written_expr marked x ++ zs → Reaches p fs (measure x) zs
 
 module _ (marked : Bool) (below : Layer → Reader Tall) (levels : ℕ) (shrinks : (c : Chain) → Shrinks (peek marked) (chain_step marked below levels c)) (part_shrinks : 0 < levels → Shrinks (sees marked k.Comma) (part_step marked below levels))
-    (named_shrinks : 0 < levels → Shrinks (sees marked k.Comma) (named_step marked below levels)) (name_shrinks : Shrinks (peek marked) (name_step marked below levels)) (again : 0 < levels → (layer : Layer) → Again marked (below layer) (levels - 1) layer) where
+    (named_shrinks : 0 < levels → Shrinks (sees marked k.Comma) (named_step marked below levels)) (choices_shrink : 0 < levels → Shrinks (sees marked k.Bar) (group_step marked k.Bar (choice marked below levels)))
+    (components_shrink : 0 < levels → Shrinks (sees marked k.Comma) (group_step marked k.Comma (component marked below levels))) (name_shrinks : Shrinks (peek marked) (name_step marked below levels)) (again : 0 < levels → (layer : Layer) → Again marked (below layer) (levels - 1) layer)
+    (low_again : 0 < levels → LowAgain marked (below layer.Expression) (levels - 1)) where
   parentheses_again : (place : Place) (inner : Expr) (fs zs : List Form) → height inner + 1 ≤ levels → Layered inner → fs ≡ placed marked k.LeftParenthesis place ∷ (written_expr marked inner ++ bare marked k.RightParenthesis ∷ zs)
       → Reaches (in_parentheses marked below levels) fs (measure (expr.Parenthesized place inner)) zs
   unfolding in_parentheses
@@ -406,7 +288,7 @@ module _ (marked : Bool) (below : Layer → Reader Tall) (levels : ℕ) (shrinks
       let f = name_parts path parts l in
       let h = name_height path parts in
       reaches_choose (peek marked) (primary_by marked below levels) (Some k.Identifier) (peek_front marked fs flat ∙ peek_here marked k.Identifier (Spelled path.root.text path.root.place) (written_steps marked path.steps (map (written_expr marked) parts) ++ zs))
-      (primary_reached marked below levels part_shrinks named_shrinks name_shrinks again path parts fs zs f.0 f.1 (omega arith) free flat)
+      (primary_reached marked below levels part_shrinks named_shrinks choices_shrink components_shrink name_shrinks again low_again path parts fs zs f.0 f.1 (omega arith) free flat)
 
   enclosed_again : (place : Place) (inner : Expr) → Told marked (primary marked below levels) levels layer.Primary (expr.Parenthesized place inner)
   unfolding primary
@@ -882,6 +764,14 @@ module _ (marked : Bool) (below : Layer → Reader Tall) (levels : ℕ) (shrinks
       (λ o place x path parts fs zs low l r free e. let a = ap rank (in_type_layer o place x path parts) in connection_plain (expr.InType o place x path parts) fs zs low l (omega arith) free e)
       (λ o place x a b fs zs low l r free e. let c = ap rank (in_range_layer o place x a b) in connection_plain (expr.InRange o place x a b) fs zs low l (omega arith) free e)
 
+  low_read : LowAgain marked (combination marked below levels) levels
+  unfolding combination opening relation
+  low_read x fs zs low l r dots e =
+      let s = ap strength dots in
+      reaches_bind _ (reaches_bind _ (reaches_bind _ (sum_again x fs zs low l r (omega arith) e) (λ us a.
+      reaches_choose (peek marked) (λ kind. relation_by marked below levels (measure x) (relator_of kind)) (Some k.DoubleDot) (peek_front marked us a ∙ dots) (reaches_pure a))) (λ us a.
+      reaches_choose (peek marked) (λ kind. opening_by marked below levels (measure x) (logical kind)) (Some k.DoubleDot) (peek_front marked us a ∙ dots) (reaches_pure a))) (λ us a. reaches_pure a)
+
   read_again : (layer : Layer) → Again marked (read marked below levels layer) levels layer
   read_again layer.Primary = primary_again
   read_again layer.Factor = factor_again
@@ -891,14 +781,27 @@ module _ (marked : Bool) (below : Layer → Reader Tall) (levels : ℕ) (shrinks
   read_again layer.Expression = combination_again
   read_again layer.Predicate = connection_again
 
-below_again : (marked : Bool) (levels : ℕ) → 0 < levels → (layer : Layer) → Again marked (below marked levels layer) (levels - 1) layer
+-- what is read one level down
+record IsBelow (marked : Bool) (levels : ℕ) : Type 0 where
+  again : (layer : Layer) → Again marked (below marked levels layer) (levels - 1) layer
+  low : LowAgain marked (below marked levels layer.Expression) (levels - 1)
+
+is_below : (marked : Bool) (levels : ℕ) → 0 < levels → IsBelow marked levels
 unfolding below
-below_again marked zero h layer = absurd (omega arith)
-below_again marked (suc n) h layer = λ x fs zs low l r free e.
+is_below marked zero h = absurd (omega arith)
+is_below marked (suc n) h =
     let lower = below marked n in
     let same = below marked (suc n) in
     let good = below_good marked n in
-    read_again marked lower n (chain_shrinks marked lower same n good) (parts_shrinks marked lower same n good) (formals_shrink marked lower same n good) (steps_shrink marked lower same n good) (below_again marked n) layer x fs zs (omega arith) l r free e
+    record {
+      again = λ layer x fs zs low l r free e. read_again marked lower n (chain_shrinks marked lower same n good) (parts_shrinks marked lower same n good) (formals_shrink marked lower same n good) (choices_shrink marked lower same n good) (components_shrink marked lower same n good)
+          (steps_shrink marked lower same n good) (λ some. (is_below marked n some).again) (λ some. (is_below marked n some).low) layer x fs zs (omega arith) l r free e;
+      low = λ x fs zs low l r dots e. low_read marked lower n (chain_shrinks marked lower same n good) (parts_shrinks marked lower same n good) (formals_shrink marked lower same n good) (choices_shrink marked lower same n good) (components_shrink marked lower same n good)
+          (steps_shrink marked lower same n good) (λ some. (is_below marked n some).again) (λ some. (is_below marked n some).low) x fs zs (omega arith) l r dots e;
+    }
+
+below_again : (marked : Bool) (levels : ℕ) → 0 < levels → (layer : Layer) → Again marked (below marked levels layer) (levels - 1) layer
+below_again marked levels some = (is_below marked levels some).again
 
 at_layer_again : (marked : Bool) (levels : ℕ) (layer : Layer) → Again marked (at_layer marked levels layer) levels layer
 unfolding at_layer
@@ -906,7 +809,8 @@ at_layer_again marked levels layer =
     let lower = below marked levels in
     let same = below marked (suc levels) in
     let good = below_good marked levels in
-    read_again marked lower levels (chain_shrinks marked lower same levels good) (parts_shrinks marked lower same levels good) (formals_shrink marked lower same levels good) (steps_shrink marked lower same levels good) (below_again marked levels) layer
+    read_again marked lower levels (chain_shrinks marked lower same levels good) (parts_shrinks marked lower same levels good) (formals_shrink marked lower same levels good) (choices_shrink marked lower same levels good) (components_shrink marked lower same levels good)
+    (steps_shrink marked lower same levels good) (below_again marked levels) (λ some. (is_below marked levels some).low) layer
 
 pub name_again : (marked : Bool) (levels : ℕ) (x : Name) (fs zs : List Form) → IsName levels x → 0 < strength (peek marked zs) → fs ≡ written_name marked x ++ zs → Reaches (name marked levels) fs x zs
 unfolding name
@@ -914,7 +818,7 @@ name_again marked levels x fs zs f free e =
     let lower = below marked levels in
     let same = below marked (suc levels) in
     let good = below_good marked levels in
-    reaches_bind _ (name_reached marked lower levels (parts_shrinks marked lower same levels good) (formals_shrink marked lower same levels good) (steps_shrink marked lower same levels good) (below_again marked levels) x.path x.parts fs zs f.0
+    reaches_bind _ (name_reached marked lower levels (parts_shrinks marked lower same levels good) (formals_shrink marked lower same levels good) (choices_shrink marked lower same levels good) (components_shrink marked lower same levels good) (steps_shrink marked lower same levels good) (below_again marked levels) (λ some. (is_below marked levels some).low) x.path x.parts fs zs f.0
     (parts_of levels (layers_of x.path.steps) x.parts f.1) (parts_low levels (layers_of x.path.steps) x.parts f.1) free e) (λ us a. reaches_pure a)
 
 -- an identifier comes first

@@ -6,7 +6,7 @@ use Rattle.spx_tree.specs.declared.token.Kind.TheVariants as k
 use Rattle.spx_text.specs.declared.place.Place.{Place}
 use Rattle.spx_tree.specs.Form.{Form, Kept, KindAlone, ItsPlace, keeps, bare, placed, named, literal}
 use Rattle.spx_tree.specs.Goes.{Expected}
-use Rattle.spx_cursor.specs.Reading.{Outcome, Reader, ◌>>=◌, pure, refuse, peek, taking, nothing_in, place_in, name_in, value_in, expect, expect_place, identifier, number, deeper, turn, turns, loop, item_step, more_items}
+use Rattle.spx_cursor.specs.Reading.{Outcome, Reader, and_then, ◌>>=◌, pure, refuse, peek, taking, nothing_in, place_in, name_in, value_in, expect, expect_place, identifier, number, deeper, turn, turns, loop, item_step, more_items}
 use Rattle.spx_parse_body.proofs.Callers.Shaped.{AreShaped, IsSpelling, IsKept, bare_spelling, placed_spelling, named_spelling, literal_spelling, bare_kept, place_kept, name_kept, value_kept}
 use Rattle.spx_parse_body.proofs.Callers.Loops.{Shortens, Shrinks, same_turns, loop_is}
 use Rattle.spx_parse_body.proofs.Callers.Lawful.{Lawful, Ends, Any, Sees, Always, single, just, at_place, ends_here, lawful_before, lawful_pure, lawful_refuse, lawful_deeper, lawful_choose, lawful_then, lawful_bind, lawful_as, lawful_weaken, lawful_fewer, lawful_taking}
@@ -99,6 +99,10 @@ module _ {L P A : Type 0} {spell : A → List Form} {fits : A → Type 0} {befor
 
 pub good_before : {L P A : Type 0} {spell : A → List Form} {fits : A → Type 0} {a b : List Form} {on : List Form → Type 0} {p p' : Reader A} → a ≡ b → Good L P spell fits a on p p' → Good L P spell fits b on p p'
 good_before {spell = spell} {fits = fits} {a = a} {b = b} {on = on} {p = p} e g = record { law = λ l w. lawful_before spell fits a b on p e (g.law l w); scans = g.scans; scans' = g.scans'; grows = g.grows }
+
+-- where the text before has another name by what is known
+pub good_known : {L P A : Type 0} {spell : A → List Form} {fits : A → Type 0} {a b : List Form} {on : List Form → Type 0} {p p' : Reader A} → (L → P → a ≡ b) → Good L P spell fits a on p p' → Good L P spell fits b on p p'
+good_known {spell = spell} {fits = fits} {a = a} {b = b} {on = on} {p = p} e g = record { law = λ l w. lawful_before spell fits a b on p (e l w) (g.law l w); scans = g.scans; scans' = g.scans'; grows = g.grows }
 
 -- where more is known
 pub good_given : {L P L1 P1 A : Type 0} {spell : A → List Form} {fits : A → Type 0} {before : List Form} {on : List Form → Type 0} {p p' : Reader A} → (L → L1) → (L → P → P1) → Good L1 P1 spell fits before on p p' → Good L P spell fits before on p p'
@@ -217,7 +221,39 @@ module _ {L P A : Type 0} {spell : A → List Form} {fits : A → Type 0} {befor
   case_takes' (absent e e' t f) fs here = inl (ap (λ (q : Reader A). q fs) e')
   case_takes' (present s) fs here = inr (s.takes' fs here)
 
+-- what takes nothing and finds x, or takes a form
+pub record Passes (L : Type 0) {A : Type 0} (on : List Form → Type 0) (x : A) (p p' : Reader A) : Type 0 where
+  pub passes : L → (fs : List Form) → on fs → (p fs ≡ Ok (x, fs)) ⊎ Takes fs (p fs)
+  pub passes' : (fs : List Form) → on fs → (p' fs ≡ Ok (x, fs)) ⊎ Takes fs (p' fs)
+
+module _ {A B : Type 0} (on : List Form → Type 0) (p : Reader A) (q : A → Reader B) (scans_p : Scans on p) (scans_q : (x : A) → Scans Any (q x)) (x : A) (fs : List Form) (pass : (p fs ≡ Ok (x, fs)) ⊎ Takes fs (p fs)) where
+  takes_past : Takes fs (q x fs) → Takes fs ((p >>= q) fs)
+  takes_past t = elim pass [ inl e ↦ subst (Takes fs) (sym (ap (λ (o : Outcome A). and_then o q) e)) t | inr s ↦ takes_bind on p q scans_p scans_q fs s ]
+
+  pass_past : (y : B) → (q x fs ≡ Ok (y, fs)) ⊎ Takes fs (q x fs) → ((p >>= q) fs ≡ Ok (y, fs)) ⊎ Takes fs ((p >>= q) fs)
+  pass_past y (inl f) = elim pass [ inl e ↦ inl (ap (λ (o : Outcome A). and_then o q) e ∙ f) | inr s ↦ inr (takes_bind on p q scans_p scans_q fs s) ]
+  pass_past y (inr t) = inr (takes_past t)
+
+module _ {L P A B : Type 0} {spell1 : A → List Form} {fits1 : A → Type 0} {spell : B → List Form} {fits : B → Type 0} {before : List Form} {on : List Form → Type 0} {p p' : Reader A} {q q' : A → Reader B}
+    (x : A) (g : Good L P spell1 fits1 before on p p') (c : Passes L on x p p') (h : (y : A) → Good L (P × fits1 y) spell fits (spell1 y) Any (q y) (q' y)) where
+  -- where nothing is taken, what goes on starts with a form
+  pub starts_past : (L → (fs : List Form) → on fs → Takes fs (q x fs)) → ((fs : List Form) → on fs → Takes fs (q' x fs)) → Starts L P spell fits before on (p >>= q) (p' >>= q')
+  starts_past t t' = record {
+    good = good_then g h;
+    takes = λ l fs here. takes_past on p q (g.scans l) (λ y. (h y).scans l) x fs (c.passes l fs here) (t l fs here);
+    takes' = λ fs here. takes_past on p' q' g.scans' (λ y. (h y).scans') x fs (c.passes' fs here) (t' fs here);
+  }
+
+  pub passes_then : (y : B) → Passes L on y (q x) (q' x) → Passes L on y (p >>= q) (p' >>= q')
+  passes_then y d = record {
+    passes = λ l fs here. pass_past on p q (g.scans l) (λ z. (h z).scans l) x fs (c.passes l fs here) y (d.passes l fs here);
+    passes' = λ fs here. pass_past on p' q' g.scans' (λ z. (h z).scans') x fs (c.passes' fs here) y (d.passes' fs here);
+  }
+
 module _ {L P K A : Type 0} {spell : A → List Form} {fits : A → Type 0} {before : List Form} (look : List Form → K) (first : AtFirst look) where
+  pub passes_choose : {on : List Form → Type 0} (x : A) (f f' : K → Reader A) → ((kind : K) → Case L P spell fits before (Sees look kind) x (f kind) (f' kind)) → Passes L on x (λ fs. f (look fs) fs) (λ fs. f' (look fs) fs)
+  passes_choose x f f' c = record { passes = λ l fs here. case_takes (c (look fs)) l fs refl; passes' = λ fs here. case_takes' (c (look fs)) fs refl }
+
   -- where nothing is a text
   pub good_choose : (f f' : K → Reader A) → f (look []) [] ≡ Err (Expected 0) → f' (look []) [] ≡ Err (Expected 0) → ((kind : K) → Good L P spell fits before (Sees look kind) (f kind) (f' kind)) → Good L P spell fits before Any (λ fs. f (look fs) fs) (λ fs. f' (look fs) fs)
   good_choose f f' e e' g = record {
@@ -360,6 +396,12 @@ module _ (L P : Type 0) {K S : Type 0} (spell : S → List Form) (fits : S → T
     scans = λ l. steady_by step (shrinks l) (turns_scans l) s;
     scans' = steady_by step' shrinks' turns_scans' s;
     grows = λ l w. record { follows = λ fs sh here. (turns_grows l w.0 (length fs) s w.1).follows fs sh here };
+  }
+
+  pub passes_loop : {on : List Form → Type 0} (s : S) → Passes L on s (loop look step s) (loop look step' s)
+  passes_loop s = record {
+    passes = λ l fs here. subst (λ (o : Outcome S). (o ≡ Ok (s, fs)) ⊎ Takes fs o) (sym (loop_is look step (shrinks l) s fs)) (turn_takes l (loop look step) s (look fs) fs (step s (look fs)) (step' s (look fs)) refl (λ x. (good_loop x).scans l) (all s (look fs)));
+    passes' = λ fs here. subst (λ (o : Outcome S). (o ≡ Ok (s, fs)) ⊎ Takes fs o) (sym (loop_is look step' shrinks' s fs)) (turn_takes' (loop look step') s (look fs) fs (step s (look fs)) (step' s (look fs)) refl (λ x. (good_loop x).scans') (all s (look fs)));
   }
 
   -- a loop of which a turn starts here starts here

@@ -1,6 +1,6 @@
 -- Names step by step: what they are written with, and what they are.
 use Rattle.std.specs.Prelude.{⊤}
-use Rattle.std.proofs.Common.{◌≡◌, ℕ, zero, suc, ◌+◌, ◌-◌, ◌≤◌, ◌<◌, max, Bool, List, [], ◌∷◌, ◌++◌, map, take, drop, replicate, length, Option, Some, None, refl, sym, ap, ap₂, subst, ◌∙◌, append_assoc, arith, length-append}
+use Rattle.std.proofs.Common.{◌≡◌, ℕ, suc, ◌+◌, ◌-◌, ◌≤◌, ◌<◌, max, Bool, List, [], ◌∷◌, ◌++◌, map, take, drop, replicate, length, Option, Some, None, refl, sym, ap, ap₂, subst, ◌∙◌, append_assoc, arith, length-append}
 use Rattle.std.proofs.lemmas.List.{append-nil, take-append-le, drop-append-le, length-replicate, length-map, length-drop, map-append}
 use Rattle.std.proofs.Math.Seq.{take-length}
 use Rattle.spx_text.specs.declared.place.Place.{Place}
@@ -10,6 +10,12 @@ use Rattle.spx_tree.specs.declared.expression.Layer.{Layer}
 use Rattle.spx_tree.specs.declared.expression.Layer.TheVariants as layer
 use Rattle.spx_tree.specs.declared.expression.Arguments.{Arguments}
 use Rattle.spx_tree.specs.declared.expression.Arguments.TheVariants as arguments
+use Rattle.spx_tree.specs.declared.expression.ChoiceForm.{ChoiceForm}
+use Rattle.spx_tree.specs.declared.expression.ChoiceForm.TheVariants as form
+use Rattle.spx_tree.specs.declared.expression.ChoiceList.{ChoiceList}
+use Rattle.spx_tree.specs.declared.expression.ChoiceList.TheVariants as choice_list
+use Rattle.spx_tree.specs.declared.expression.Aggregate.{Aggregate}
+use Rattle.spx_tree.specs.declared.expression.Aggregate.TheVariants as aggregate_as
 use Rattle.spx_tree.specs.declared.expression.NameStep.{NameStep}
 use Rattle.spx_tree.specs.declared.expression.NameStep.TheVariants as step
 use Rattle.spx_tree.specs.declared.expression.Path.{Path}
@@ -18,14 +24,14 @@ use Rattle.spx_tree.specs.declared.expression.Expr.{Expr, Expr-F, out-Expr}
 use Rattle.spx_tree.specs.declared.expression.Expr.TheVariants as expr
 use Rattle.spx_tree.specs.declared.expression.Expr.TheVariants.{outs-Number, outs-Name, outs-Parenthesized, outs-Prefix, outs-Infix, outs-InType, outs-InRange}
 use Rattle.spx_tree.specs.Form.{Form, bare, named}
-use Rattle.spx_tree.specs.Written.{separated, takes, same_forms, named_parts, written_arguments, written_step, written_steps, written_path, written_expr}
-use Rattle.spx_tree.specs.Grammar.{Each, OneOrMore, IsIdentifiers, rank, layer_in, layers_of_step, layers_of, IsStep, AreOf}
+use Rattle.spx_tree.specs.Written.{separated, total, choice_takes, list_takes, association_takes, aggregate_takes, takes, same_forms, named_parts, written_arguments, written_step, written_steps, written_path, written_expr}
+use Rattle.spx_tree.specs.Grammar.{Each, OneOrMore, IsIdentifiers, rank, layer_in, layers_of_all, layers_of_choice, layers_of_list, layers_of_association, layers_of_aggregate, layers_of_step, layers_of, IsStep, AreOf}
 use Rattle.spx_tree.proofs.WrittenLevels.{written_expr_level, spelled_expr}
 use Rattle.spx_parse_body.specs.declared.tall.Tall.{Tall}
 use Rattle.spx_parse_body.specs.declared.names.Parts.{Parts}
 use Rattle.spx_parse_body.specs.declared.names.TallName.{TallName}
 use Rattle.spx_parse_body.specs.Expressions.{plain_name, name_at, root_alone, alone_in, identifier_in, no_parts, with_part, with_named, one_part, all_named, root_name, with_step}
-use Rattle.spx_parse_body.proofs.Callers.Heights.{tops, height, Layered, IsUpTo, IsPart, by_form}
+use Rattle.spx_parse_body.proofs.Callers.Heights.{tops, height, Layered, IsPart, by_form}
 use Rattle.spx_parse_body.proofs.Callers.Lawful.{Always}
 use Rattle.spx_parse_body.proofs.Callers.Separated.{all_added, separated_adds}
 
@@ -52,12 +58,32 @@ abbrev pub taken : List NameStep → ℕ
 taken [] = 0
 taken (s ∷ steps) = takes s + taken steps
 
+-- what items have together
+pub all_length : {A : Type 0} (count : A → ℕ) (layers : A → List Layer) → ((x : A) → length (layers x) ≡ count x) → (xs : List A) → length (layers_of_all layers xs) ≡ total count xs
+all_length count layers h [] = refl
+all_length count layers h (x ∷ xs) = length-append (layers x) (layers_of_all layers xs) ∙ ap₂ (λ (a b : ℕ). a + b) (h x) (all_length count layers h xs)
+
+pub choice_length : (c : ChoiceForm) → length (layers_of_choice c) ≡ choice_takes c
+choice_length form.Single = refl
+choice_length form.Range = refl
+
+pub list_length : (choices : ChoiceList) → length (layers_of_list choices) ≡ list_takes choices
+list_length choice_list.Others = refl
+list_length (choice_list.Choices forms) = all_length choice_takes layers_of_choice choice_length forms
+
+pub association_length : (choices : ChoiceList) → length (layers_of_association choices) ≡ association_takes choices
+association_length choices = length-append (layers_of_list choices) (layer.Expression ∷ []) ∙ ap (λ (n : ℕ). n + 1) (list_length choices)
+
+aggregate_length : (a : Aggregate) → length (layers_of_aggregate a) ≡ aggregate_takes a
+aggregate_length (aggregate_as.Positional count) = length-replicate count layer.Expression
+aggregate_length (aggregate_as.Named lists) = all_length association_takes layers_of_association association_length lists
+
 pub step_length : (s : NameStep) → length (layers_of_step s) ≡ takes s
 step_length (step.Selected selector) = refl
 step_length (step.Attribute designator) = refl
 step_length (step.Applied place (arguments.Positional count)) = length-replicate count layer.Expression
 step_length (step.Applied place (arguments.Named names)) = length-map names (λ name. layer.Expression)
-step_length (step.Qualified place) = refl
+step_length (step.Qualified place aggregate) = aggregate_length aggregate
 step_length step.Entry = refl
 
 layers_length : (steps : List NameStep) → length (layers_of steps) ≡ taken steps
@@ -185,11 +211,11 @@ pub record AreNamed (levels : ℕ) (p : Parts) : Type 0 where
   pub parts : IsParts levels p
   pub same : length p.names ≡ length p.exprs
 
-some_added : {A : Type 0} (P : A → Type 0) (xs : List A) (x : A) → OneOrMore P xs → P x → OneOrMore P (xs ++ x ∷ [])
+pub some_added : {A : Type 0} (P : A → Type 0) (xs : List A) (x : A) → OneOrMore P xs → P x → OneOrMore P (xs ++ x ∷ [])
 some_added P [] x f g = absurd f
 some_added P (y ∷ ys) x f g = (f.0, all_added P ys x f.1 g)
 
-each_always : (ws : List (List Form)) → Each Always ws
+pub each_always : (ws : List (List Form)) → Each Always ws
 each_always [] = tt
 each_always (w ∷ ws) = (tt, each_always ws)
 
@@ -271,15 +297,15 @@ pub record AreArguments (levels : ℕ) (x : Arguments × Parts) : Type 0 where
   pub formed : (place : Place) → IsStep (step.Applied place x.0)
   pub parts : (place : Place) → AreOf IsPart (layers_of_step (step.Applied place x.0)) x.1.exprs
 
-each_of : {A : Type 0} (P : A → Type 0) (xs : List A) → OneOrMore P xs → Each P xs
+pub each_of : {A : Type 0} (P : A → Type 0) (xs : List A) → OneOrMore P xs → Each P xs
 each_of P [] f = absurd f
 each_of P (x ∷ xs) f = f
 
-some_length : {A : Type 0} (P : A → Type 0) (xs : List A) → OneOrMore P xs → 0 < length xs
+pub some_length : {A : Type 0} (P : A → Type 0) (xs : List A) → OneOrMore P xs → 0 < length xs
 some_length P [] f = absurd f
 some_length P (x ∷ xs) f = omega arith
 
-all_positional : (exprs : List Expr) → Each (IsPart layer.Expression) exprs → AreOf IsPart (replicate (length exprs) layer.Expression) exprs
+pub all_positional : (exprs : List Expr) → Each (IsPart layer.Expression) exprs → AreOf IsPart (replicate (length exprs) layer.Expression) exprs
 all_positional [] f = tt
 all_positional (x ∷ xs) f = (f.0, all_positional xs f.1)
 

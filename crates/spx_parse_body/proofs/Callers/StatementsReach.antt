@@ -33,7 +33,8 @@ use Rattle.spx_parse_body.proofs.Callers.Loops.{Shrinks}
 use Rattle.spx_parse_body.proofs.Callers.Separated.{Lacks, not_seen, sees_front, reaches_separated, reaches_some_items}
 use Rattle.spx_parse_body.proofs.Callers.Reaches.{Reaches, reaches_bind, reaches_pure, reaches_choose, reaches_deeper, reaches_expect, reaches_expect_place, reaches_identifier, reaches_is, reaches_items_before, peek_front}
 use Rattle.spx_parse_body.proofs.Callers.NamesReach.{strength, Free, bare_free}
-use Rattle.spx_parse_body.proofs.Callers.ExpressionsReach.{name_again, name_front, expression_again, predicate_after_again, simple_expression_again, expression_below_again, simple_expression_below_again, not_others, double_dot_free, semicolon_free, sum_free, then_free}
+use Rattle.spx_parse_body.proofs.Callers.Fronts.{not_others}
+use Rattle.spx_parse_body.proofs.Callers.ExpressionsReach.{name_again, name_front, expression_again, predicate_after_again, simple_expression_again, expression_below_again, simple_expression_below_again, double_dot_free, semicolon_free, sum_free, then_free}
 use Rattle.spx_parse_body.proofs.Callers.StatementsGood.{IsInner, FitsArm, FitsChoice, FitChoices, FitsAlternative, written_arms, written_alternatives, written_else, choices_shrinks, arms_shrinks, alternatives_shrinks, stmts_shrinks}
 
 -- statements with the same last level are the same
