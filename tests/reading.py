@@ -3602,10 +3602,10 @@ def listed_conditions(name, procedure, conditions):
 
 @dataclass(frozen=True)
 class InputLine:
-    """`NAME = VALUE`, by the number of its line. The value is a number, or a word as it is spelled."""
+    """`NAME = VALUE`, by the number of its line. The value is a number, a word as it is spelled, or the parts of values in parentheses."""
     number: int
     name: str
-    value: Union[int, str]
+    value: Union[int, str, tuple]
 
 
 def lines_of(text):
@@ -3637,13 +3637,38 @@ def input_line(number, text):
 
 
 def input_value(tokens):
-    """A number, a number after `-`, or a word that is not reserved. What a number comes to has at most 128 bits."""
+    """A number, a number after `-`, a word that is not reserved, or values in parentheses. What a number comes to has at most 128 bits."""
     kinds = [token.kind for token in tokens]
     if kinds in (['number'], ['-', 'number']):
         number = number_value(tokens[-1].text)
         value = number if len(tokens) == 1 else -number
         return value if fits(value) else None
-    return tokens[0].text if kinds == ['identifier'] else None
+    if kinds == ['identifier']:
+        return tokens[0].text
+    return values_in_parentheses(tokens)
+
+
+# What may come directly after what in values in parentheses, where `n` is a number and `w` a word.
+NEIGHBOURS = {'(': '(nw-', ',': '(nw-', '-': 'n', 'n': ',)', 'w': ',)', ')': ',)'}
+
+
+def values_in_parentheses(tokens):
+    """The parts of values in parentheses, if the tokens are some: each has a fitting neighbour, and only the last one closes the first one."""
+    letters = [{'number': 'n', 'identifier': 'w'}.get(token.kind, token.kind) for token in tokens]
+    depth, parts = 0, []
+    for at, (token, letter) in enumerate(zip(tokens, letters)):
+        depth += (letter == '(') - (letter == ')')
+        is_last = at + 1 == len(tokens)
+        if letter not in NEIGHBOURS or is_last != (depth == 0) or not is_last and letters[at + 1] not in NEIGHBOURS[letter]:
+            return None
+        if letter == 'n':
+            number = number_value(token.text)
+            if not fits(number):
+                return None
+            parts.append(-number if letters[at - 1] == '-' else number)
+        elif letter in '()w':
+            parts.append(token.text if letter == 'w' else letter)
+    return tuple(parts) if parts[:1] == ['('] else None
 
 
 def given_value(subtype, value):

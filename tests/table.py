@@ -7550,13 +7550,23 @@ def bad_lines():
     for label, line in {
             'empty': '', 'a_space_only': ' ', 'a_comment_only': '-- A = 1', 'no_value': 'A =', 'no_name': '= 1', 'no_equal_sign': 'A 1', 'assignment': 'A := 1', 'arrow': 'A => 1',
             'two_values': 'A = 1 2', 'semicolon': 'A = 1;', 'two_on_a_line': 'A = 1, B = 0', 'twice_equal': 'A = B = 1', 'plus': 'A = +1', 'two_signs': 'A = - -1', 'comment_for_a_sign': 'A = --1',
-            'sum': 'A = 1 + 1', 'parentheses': 'A = (1)', 'sign_of_a_word': 'P = -True', 'not': 'P = not True', 'attribute': "A = Integer'Last", 'number_for_a_name': '1 = A',
+            'sum': 'A = 1 + 1', 'sign_of_a_word': 'P = -True', 'not': 'P = not True', 'attribute': "A = Integer'Last", 'number_for_a_name': '1 = A',
             'reserved_name': 'begin = 1', 'reserved_value': 'P = null', 'point': 'A = 1.5', 'bad_number': 'A = 1_', 'bad_base': 'A = 17#1#', 'negative_exponent': 'A = 1E-1', 'number_and_letters': 'A = 1A',
             'bad_byte': 'A = "1"', 'underscores': 'A__B = 1', 'too_wide': f'A = {TOO_WIDE}', 'too_wide_with_a_sign': f'A = -{TOO_WIDE[:-1]}9',
             'too_wide_after_plus': f'A = +{TOO_WIDE}', 'too_wide_in_a_sum': f'A = -1 - {TOO_WIDE}', 'more_after_the_least_number': f'A = -{TOO_WIDE} 1', 'bad_least_number': f'A = -{TOO_WIDE}_',
             'least_number_in_annotation': f'A = - --# {TOO_WIDE}', 'least_number_for_a_name': f'-{TOO_WIDE} = 1', 'annotation_after_the_least_number': f'A = -{TOO_WIDE} --# B', 'dotted_name': 'Inc.A = 1', 'entry_value': 'X~ = 1',
             'annotation': '--# A = 1', 'annotated_value': 'A = --# 1', 'annotation_after_it': 'A = 1 --# B', 'null_byte': 'A = 1\0', 'not_equal': 'A /= 1', 'mark_of_bytes': '\ufeffA = 1'}.items():
         yield input_refused(f'{label}_in_inputs.adb', SEVERAL, line + '\n', (1, I1))
+    # In parentheses there are values, with one comma between two, and nothing comes before or after the parentheses.
+    for label, value in {
+            'nothing': '()', 'nothing_after_a_value': '(1, ())', 'one_without_an_end': '(1', 'a_comma_without_an_end': '(1,', 'no_comma': '(1 2)', 'no_parentheses': '1, 2', 'two_ends': '(1))', 'two_beginnings': '((1)',
+            'end_only': ')', 'beginning_only': '(', 'end_first': ')1(', 'sign_only': '(-)', 'comma_last': '(1, )', 'comma_first': '(, 1)', 'two_commas': '(1,, 2)', 'two_lists': '(1) (2)', 'two_lists_and_a_comma': '(1), (2)',
+            'list_after_a_number': '(1 (2))', 'two_signs': '(- -1)', 'sign_before_a_word': '(-True)', 'sign_before_them': '-(1)', 'sign_before_others': '(1, -(2))', 'number_after_them': '(1) 2', 'sum': '(1 + 1)', 'semicolon': '(1; 2)',
+            'association': '(A => 1)', 'range': '(1 .. 2)', 'reserved_word': '(1, null)', 'annotation': '(1, --# 2)', 'head_before_the_end': '(1, 2 --# )', 'too_wide': f'({TOO_WIDE})', 'least_number': f'(-{TOO_WIDE})',
+            'least_number_at_the_end': f'(1, -{TOO_WIDE}'}.items():
+        yield input_refused(f'{label}_in_parentheses_of_inputs.adb', SEVERAL, f'A = {value}\n', (1, I1))
+    yield input_refused('one_end_too_few_in_inputs.adb', SEVERAL, f'A = {"(" * 1000}1{")" * 999}\n', (1, I1))
+    yield input_refused('one_end_too_many_in_inputs.adb', SEVERAL, f'A = {"(" * 999}1{")" * 1000}\n', (1, I1))
     yield input_refused('bad_second_line.adb', SEVERAL, FIVE.replace('B = 0', ''), (2, I1))
     yield input_refused('bad_last_line.adb', SEVERAL, FIVE + '?', (6, I1))
     yield input_refused('bad_last_line_that_is_empty.adb', SEVERAL, FIVE + '\n', (6, I1))
@@ -7570,6 +7580,8 @@ def bad_lines():
 def imports_of_inputs():
     """I2 and I3 come line by line, at most one on each. Then comes I4 for each import that no line names."""
     yield input_refused('no_such_name.adb', SEVERAL, FIVE + 'W = 1\n', (6, I2))
+    yield input_refused('no_such_name_and_parentheses.adb', SEVERAL, FIVE + 'W = (1)\n', (6, I2))
+    yield input_refused('import_twice_and_parentheses.adb', SEVERAL, FIVE + 'A = (1, 2)\n', (6, I2))
     yield input_refused('export_only.adb', SEVERAL, FIVE + 'Y = True\n', (6, I2))
     yield input_refused('name_of_the_entry.adb', SEVERAL, FIVE + 'Inc = 1\n', (6, I2))
     yield input_refused('name_of_a_type.adb', SEVERAL, FIVE + 'Integer = 1\n', (6, I2))
@@ -7583,7 +7595,11 @@ def imports_of_inputs():
                         'integer_past_the_end': 'A = 2147483648', 'integer_before_the_first': 'A = -2147483649', 'widest_number': f'A = {WIDEST}', 'least_number': f'A = -{TOO_WIDE}',
                         'least_number_apart': f'A = - \t{TOO_WIDE} -- {TOO_WIDE} --#', 'least_number_of_base_2': 'A = -2#1#E127', 'least_number_of_base_16': 'B = - 16#8_0#E+30', 'least_number_before_a_head': f'C = -0_0{TOO_WIDE}--#',
                         'number_for_a_boolean': 'P = 1', 'zero_for_a_boolean': 'P = 0',
-                        'other_word_for_a_boolean': 'P = Yes', 'name_for_a_boolean': 'P = P', 'part_of_a_word': 'P = Tru'}.items():
+                        'other_word_for_a_boolean': 'P = Yes', 'name_for_a_boolean': 'P = P', 'part_of_a_word': 'P = Tru',
+                        'two_values_for_an_integer': 'A = (1, 2)', 'values_in_values_for_an_integer': 'A = ((1, -2), True)', 'number_in_parentheses': 'B = (0)', 'number_in_two_parentheses': 'C = ((1))',
+                        'truth_value_in_parentheses': 'P = (False)', 'negative_number_in_parentheses': 'A = ( -1)', 'two_values_for_a_boolean': 'P = (True, False)', 'words_in_parentheses': 'P = (A, (Yes, 1))',
+                        'parentheses_with_gaps': 'A = ( 1\t,- 16#7F#,\r(x ) ) -- (', 'parentheses_without_gaps': 'A =(1,(2,3),-4,(5),((6,x)))--', 'widest_number_in_parentheses': f'A = (1, {WIDEST}, -{WIDEST})',
+                        'thousand_parentheses': f'A = {"(" * 1000}1{")" * 1000}', 'thousand_values': f'A = (1{", 1" * 999})'}.items():
         number = 'ABCP'.index(line[0]) + 1
         inputs = [line if at == number else other for at, other in enumerate(FIVE.splitlines(), 1)]
         yield input_refused(f'{label}.adb', SEVERAL, '\n'.join(inputs), (number, I3))

@@ -196,7 +196,7 @@ nothing_given r source given runs none = record {
 
     not_much : ¬ TooMuch r (source ∷ given)
     not_much (inl (plain, large)) = plain runs
-    not_much (inr comes) = none (result_given r source given _ comes)
+    not_much (inr (name, comes)) = none (result_given r source given _ comes)
 
 -- inputs are read in one way
 pub one_inputs : Laws → (given : List (List ℕ)) (a b : Result (List InputLine) ℕ) → AreInputsIn given a → AreInputsIn given b → a ≡ b
@@ -219,7 +219,7 @@ module _ (laws : Laws) (source : List ℕ) (p : Program) (on : IsOn source p) wh
   not_large r plain narrow few (inl (_, inr (q, spelled, obeys, slim, flows, name, passed))) =
       let same = same_program q spelled in
       not_both q p name same passed (few (subst HasNoFlowFinding same flows))
-  not_large r plain narrow few (inr comes) = plain (no_result_plain r (source ∷ []) _ comes)
+  not_large r plain narrow few (inr (name, comes)) = plain (no_result_plain r (source ∷ []) _ comes)
 
   not_flawed : (r : Request) → IsPlain r → ¬ HasNoFlowFinding p → ¬ AreGoodFor r (source ∷ [])
   not_flawed r plain flaw (inl (check, (q, spelled, clean))) = flaw (subst HasNoFlowFinding (same_program q spelled) clean.flows)

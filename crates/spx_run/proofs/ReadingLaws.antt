@@ -1,10 +1,6 @@
 -- What tokens are read as is what their line says.
-use Rattle.std.proofs.Common.{◌≡◌, ℕ, ◌^◌, pos, Bool, true, false, not, ◌&&◌, List, [], ◌∷◌, Option, Some, None, refl, sym, ap, ap₂, subst, ◌∙◌, rules}
-use Rattle.std.specs.Prelude.{◌-ℤ◌, if◌then◌else◌, IfOk, Result, Ok, Err}
-use Rattle.std.proofs.lemmas.Bool.{and_parts}
-use denote.Enum.Bare.{same_true, true_same}
-use Rattle.spx_tree.specs.contracts.token.Kind.{the_type}
-use Rattle.spx_tree.specs.declared.token.Kind.{Kind}
+use Rattle.std.proofs.Common.{◌≡◌, ℕ, ◌^◌, pos, Bool, true, false, ◌&&◌, List, [], ◌∷◌, Option, Some, None, refl, sym, ap, ap₂, ◌∙◌}
+use Rattle.std.specs.Prelude.{◌-ℤ◌, if◌then◌else◌, option_map, IfOk, Result, Ok, Err}
 use Rattle.spx_tree.specs.declared.token.Kind.TheVariants as kind
 use Rattle.spx_tree.specs.declared.token.Token.{Token}
 use Rattle.spx_tree.specs.Form.{spelling}
@@ -12,35 +8,13 @@ use Rattle.spx_tree.specs.Spells.{Spells}
 use Rattle.spx_tree.specs.Stops.{HasMoreTokens, most_tokens}
 use Rattle.spx_lexer.specs.Least.{EndsInLeast}
 use Rattle.spx_run.specs.declared.inputs.InputValue.{InputValue}
-use Rattle.spx_run.specs.declared.inputs.InputValue.TheVariants.{Number, Word}
+use Rattle.spx_run.specs.declared.inputs.InputValue.TheVariants.{Number}
+use Rattle.spx_run.specs.declared.inputs.InputPart.{InputPart}
 use Rattle.spx_run.specs.declared.inputs.InputLine.{InputLine}
-use Rattle.spx_run.specs.Inputs.{IsToken, IsValue, number, negative, word, IsSpelled, IsLeast, IsLine, spelled, least}
-use Rattle.spx_run.specs.Mirror.{same_kind, is_token, value_in, named_value, line_in, least_line, IsReadAs}
-
--- ---- tokens
-
-kind_is : (a b : Kind) → same_kind a b ≡ true → a ≡ b
-unfolding same_kind
-kind_is a b e = same_true the_type (search rules) a b e
-
-kind_self : (a : Kind) → same_kind a a ≡ true
-unfolding same_kind
-kind_self a = true_same the_type a a refl
-
-unmarked : (b : Bool) → not b ≡ true → b ≡ false
-unmarked true e = absurd (cc)
-unmarked false e = refl
-
-pub token_is : (what : Kind) (t : Token) → is_token what t ≡ true → IsToken what t
-token_is what t e = let parts = and_parts (same_kind t.kind what) (not t.marked) e in record { of_kind = kind_is t.kind what parts.0; in_code = unmarked t.marked parts.1 }
-
-pub token_tested : (what : Kind) (t : Token) → IsToken what t → is_token what t ≡ true
-token_tested what t is = ap₂ (λ a b. a && not b) (subst (λ k. same_kind k what ≡ true) (sym is.of_kind) (kind_self what)) is.in_code
-
--- a word is no number
-word_is_no_number : (t : Token) → IsToken kind.Identifier t → (b : Bool) → is_token kind.Number t ≡ b → b ≡ false
-word_is_no_number t is true e = let both = token_is kind.Number t e in let same : kind.Identifier ≡ kind.Number = sym is.of_kind ∙ both.of_kind in absurd cc
-word_is_no_number t is false e = refl
+use Rattle.spx_run.specs.Inputs.{IsValue, value_of, IsSpelled, IsLeast, IsLine, spelled, least}
+use Rattle.spx_run.specs.Mirror.{is_token, parts_in, value_in, named_value, line_in, least_line, IsReadAs}
+use Rattle.spx_run.proofs.TokenLaws.{token_is, token_tested}
+use Rattle.spx_run.proofs.PartLaws.{parts_are, parts_found}
 
 -- ---- values
 
@@ -48,34 +22,16 @@ some_is : {X : Type 0} (x y : X) → Some x ≡ Some y → y ≡ x
 some_is x y e = cc
 
 -- the value that is found is one that the tokens say
-single_by : (source : List ℕ) (t : Token) (value : InputValue) (a b : Bool) → is_token kind.Number t ≡ a → is_token kind.Identifier t ≡ b → (if a then Some (Number t.number) else (if b then Some (Word (spelling source t)) else None)) ≡ Some value → IsValue source (t ∷ []) value
-single_by source t value true b is_number is_word e = number t (token_is kind.Number t is_number) refl (some_is (Number t.number) value e)
-single_by source t value false true is_number is_word e = word t (token_is kind.Identifier t is_word) refl (some_is (Word (spelling source t)) value e)
-single_by source t value false false is_number is_word e = absurd cc
+value_by : (source : List ℕ) (tokens : List Token) (value : InputValue) (found : Option (List InputPart)) → parts_in source tokens ≡ found → option_map value_of found ≡ Some value → IsValue source tokens value
+value_by source tokens value (Some parts) is e = record { parts = parts; written = parts_are source tokens parts is; valued = some_is (value_of parts) value e }
+value_by source tokens value None is e = absurd cc
 
-negative_by : (source : List ℕ) (minus t : Token) (value : InputValue) (a b : Bool) → is_token kind.Minus minus ≡ a → is_token kind.Number t ≡ b → (if a && b then Some (Number (pos 0 -ℤ t.number)) else None) ≡ Some value → IsValue source (minus ∷ t ∷ []) value
-negative_by source minus t value true true is_minus is_number e = negative minus t (token_is kind.Minus minus is_minus) (token_is kind.Number t is_number) refl (some_is (Number (pos 0 -ℤ t.number)) value e)
-negative_by source minus t value true false is_minus is_number e = absurd cc
-negative_by source minus t value false b is_minus is_number e = absurd cc
-
-pub value_is : (source : List ℕ) (tokens : List Token) (value : InputValue) → value_in source tokens ≡ Some value → IsValue source tokens value
-value_is source [] value e = absurd cc
-value_is source (t ∷ []) value e = single_by source t value (is_token kind.Number t) (is_token kind.Identifier t) refl refl e
-value_is source (minus ∷ t ∷ []) value e = negative_by source minus t value (is_token kind.Minus minus) (is_token kind.Number t) refl refl e
-value_is source (a ∷ b ∷ c ∷ more) value e = absurd cc
+value_is : (source : List ℕ) (tokens : List Token) (value : InputValue) → value_in source tokens ≡ Some value → IsValue source tokens value
+value_is source tokens value e = value_by source tokens value (parts_in source tokens) refl e
 
 -- each value that the tokens say is found
-pub value_found : (source : List ℕ) (tokens : List Token) (value : InputValue) → IsValue source tokens value → value_in source tokens ≡ Some value
-value_found source tokens value (number t is only said) =
-    ap (value_in source) only ∙ ap (λ a. if a then Some (Number t.number) else (if is_token kind.Identifier t then Some (Word (spelling source t)) else None)) (token_tested kind.Number t is) ∙ ap Some (sym said)
-value_found source tokens value (negative minus t is_minus is only said) =
-    ap (value_in source) only
-    ∙ ap₂ (λ a b. if a && b then Some (Number (pos 0 -ℤ t.number)) else None) (token_tested kind.Minus minus is_minus) (token_tested kind.Number t is)
-    ∙ ap Some (sym said)
-value_found source tokens value (word t is only said) =
-    ap (value_in source) only
-    ∙ ap₂ (λ a b. if a then Some (Number t.number) else (if b then Some (Word (spelling source t)) else None)) (word_is_no_number t is (is_token kind.Number t) refl) (token_tested kind.Identifier t is)
-    ∙ ap Some (sym said)
+value_found : (source : List ℕ) (tokens : List Token) (value : InputValue) → IsValue source tokens value → value_in source tokens ≡ Some value
+value_found source tokens value is = ap (option_map value_of) (parts_found source tokens is.parts is.written) ∙ ap Some (sym is.valued)
 
 -- ---- lines
 

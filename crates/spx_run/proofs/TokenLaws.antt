@@ -1,12 +1,38 @@
--- The numbers of the tokens of a text.
-use Rattle.std.proofs.Common.{◌≡◌, ℕ, ℤ, pos, Bool, false, List, [], ◌∷◌, ◌++◌, sym, subst}
+-- The kinds of tokens, and the numbers of those of a text.
+use Rattle.std.proofs.Common.{◌≡◌, ℕ, ℤ, pos, Bool, true, false, not, ◌&&◌, List, [], ◌∷◌, ◌++◌, refl, sym, ap₂, subst, rules}
+use Rattle.std.proofs.lemmas.Bool.{and_parts}
+use denote.Enum.Bare.{same_true, true_same}
 use Rattle.std.specs.List.{AllByRecursion}
 use Rattle.std.proofs.lemmas.List.Elements.{All-from_recursion}
+use Rattle.spx_tree.specs.contracts.token.Kind.{the_type}
 use Rattle.spx_tree.specs.declared.token.Kind.{Kind}
 use Rattle.spx_tree.specs.declared.token.Token.{Token}
 use Rattle.spx_tree.specs.Lexemes.{IsLexeme, word, numeral, delimiter}
 use Rattle.spx_tree.specs.Spells.{Role, line_end, separator, comment, head, lexeme, Stands, Part, bytes_of, marked_following, AllStand, tokens_by, tokens_of, Spells}
-use Rattle.spx_run.specs.Mirror.{IsNatural, AreNatural}
+use Rattle.spx_run.specs.Inputs.{IsToken}
+use Rattle.spx_run.specs.Mirror.{same_kind, is_token, IsNatural, AreNatural}
+
+-- ---- kinds
+
+kind_is : (a b : Kind) → same_kind a b ≡ true → a ≡ b
+unfolding same_kind
+kind_is a b e = same_true the_type (search rules) a b e
+
+kind_self : (a : Kind) → same_kind a a ≡ true
+unfolding same_kind
+kind_self a = true_same the_type a a refl
+
+unmarked : (b : Bool) → not b ≡ true → b ≡ false
+unmarked true e = absurd (cc)
+unmarked false e = refl
+
+pub token_is : (what : Kind) (t : Token) → is_token what t ≡ true → IsToken what t
+token_is what t e = let parts = and_parts (same_kind t.kind what) (not t.marked) e in record { of_kind = kind_is t.kind what parts.0; in_code = unmarked t.marked parts.1 }
+
+pub token_tested : (what : Kind) (t : Token) → IsToken what t → is_token what t ≡ true
+token_tested what t is = ap₂ (λ a b. a && not b) (subst (λ k. same_kind k what ≡ true) (sym is.of_kind) (kind_self what)) is.in_code
+
+-- ---- numbers
 
 -- the value of a lexeme is not below 0
 natural_lexeme : (marked : Bool) (what : Kind) (number : ℤ) (bytes : List ℕ) → IsLexeme marked what number bytes → (n : ℕ) × (number ≡ pos n)

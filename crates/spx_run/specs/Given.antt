@@ -16,7 +16,7 @@ use Rattle.spx_term.specs.declared.value.Value.{Value}
 use Rattle.spx_term.specs.declared.value.Value.TheVariants as value
 use Rattle.spx_meaning.specs.Stores.{Store, lies_in, look, put, type_of}
 use Rattle.spx_run.specs.declared.inputs.InputValue.{InputValue}
-use Rattle.spx_run.specs.declared.inputs.InputValue.TheVariants.{Number, Word}
+use Rattle.spx_run.specs.declared.inputs.InputValue.TheVariants.{Number, Word, Parts}
 use Rattle.spx_run.specs.declared.inputs.InputLine.{InputLine}
 use Rattle.spx_run.specs.declared.result.InputFinding.{InputFinding}
 use Rattle.spx_run.specs.declared.result.InputFinding.TheVariants.{NoImport, NotOfType, NoValue}
@@ -54,8 +54,10 @@ same_var v w = v.0 == w.0
 abbrev pub written : Class → InputValue → Option Value
 written Integer (Number n) = Some (value.Number n)
 written Integer (Word w) = None
+written Integer (Parts parts) = None
 written Boolean (Number n) = None
 written Boolean (Word w) = if is_word w (codes "true") then Some (value.Truth true) else if is_word w (codes "false") then Some (value.Truth false) else None
+written Boolean (Parts parts) = None
 written Enumeration given = None
 written Composite given = None
 

@@ -1,5 +1,5 @@
 -- What an inputs file says: a line `NAME = VALUE` for each import, in the lexemes of the language.
-use Rattle.std.specs.Prelude.{◌≡◌, ⊤, ◌⊎◌, ℕ, suc, ◌^◌, pos, ◌-ℤ◌, false, List, [], ◌∷◌, Result, Ok, Err}
+use Rattle.std.specs.Prelude.{◌≡◌, ⊤, ◌⊎◌, ℕ, suc, ◌^◌, pos, ◌-ℤ◌, false, List, [], ◌∷◌, ◌++◌, Result, Ok, Err}
 use Rattle.spx_tree.specs.declared.token.Kind.{Kind}
 use Rattle.spx_tree.specs.declared.token.Kind.TheVariants as kind
 use Rattle.spx_tree.specs.declared.token.Token.{Token}
@@ -8,7 +8,9 @@ use Rattle.spx_tree.specs.Spells.{Spells}
 use Rattle.spx_tree.specs.Stops.{HasMoreTokens, most_tokens}
 use Rattle.spx_lexer.specs.Least.{EndsInLeast}
 use Rattle.spx_run.specs.declared.inputs.InputValue.{InputValue}
-use Rattle.spx_run.specs.declared.inputs.InputValue.TheVariants.{Number, Word}
+use Rattle.spx_run.specs.declared.inputs.InputValue.TheVariants.{Number, Word, Parts}
+use Rattle.spx_run.specs.declared.inputs.InputPart.{InputPart}
+use Rattle.spx_run.specs.declared.inputs.InputPart.TheVariants as part
 use Rattle.spx_run.specs.declared.inputs.InputLine.{InputLine}
 use Rattle.spx_run.specs.Lines.{lines_of}
 
@@ -17,11 +19,32 @@ pub record IsToken (what : Kind) (t : Token) : Type 0 where
   pub of_kind : t.kind ≡ what
   pub in_code : t.marked ≡ false
 
--- the tokens of a value: a number, a number after `-`, or a word
-pub data IsValue (source : List ℕ) (tokens : List Token) (value : InputValue) : Type 0 where
-  number : (t : Token) → IsToken kind.Number t → tokens ≡ t ∷ [] → value ≡ Number t.number → IsValue source tokens value
-  negative : (minus t : Token) → IsToken kind.Minus minus → IsToken kind.Number t → tokens ≡ minus ∷ t ∷ [] → value ≡ Number (pos 0 -ℤ t.number) → IsValue source tokens value
-  word : (t : Token) → IsToken kind.Identifier t → tokens ≡ t ∷ [] → value ≡ Word (spelling source t) → IsValue source tokens value
+mutual
+  -- the tokens of one value, and its parts: a number, a number after `-`, a word, or values in parentheses
+  pub data AreOneValue (source : List ℕ) : List Token → List InputPart → Type 0 where
+    number : (t : Token) → IsToken kind.Number t → AreOneValue source (t ∷ []) (part.Number t.number ∷ [])
+    negative : (minus t : Token) → IsToken kind.Minus minus → IsToken kind.Number t → AreOneValue source (minus ∷ t ∷ []) (part.Number (pos 0 -ℤ t.number) ∷ [])
+    word : (t : Token) → IsToken kind.Identifier t → AreOneValue source (t ∷ []) (part.Word (spelling source t) ∷ [])
+    listed : (left right : Token) (inside : List Token) (parts : List InputPart) → IsToken kind.LeftParenthesis left → AreValues source inside parts → IsToken kind.RightParenthesis right
+        → AreOneValue source (left ∷ (inside ++ right ∷ [])) (part.Open ∷ (parts ++ part.Close ∷ []))
+
+  -- the tokens of values after each other, with a comma between two, and their parts
+  pub data AreValues (source : List ℕ) : List Token → List InputPart → Type 0 where
+    last : (tokens : List Token) (parts : List InputPart) → AreOneValue source tokens parts → AreValues source tokens parts
+    next : (first rest : List Token) (comma : Token) (parts others : List InputPart) → AreOneValue source first parts → IsToken kind.Comma comma → AreValues source rest others
+        → AreValues source (first ++ comma ∷ rest) (parts ++ others)
+
+-- the value of these parts: a number or a word by itself, or values in parentheses
+abbrev pub value_of : List InputPart → InputValue
+value_of (part.Number n ∷ []) = Number n
+value_of (part.Word w ∷ []) = Word w
+value_of parts = Parts parts
+
+-- the tokens of a value
+pub record IsValue (source : List ℕ) (tokens : List Token) (value : InputValue) : Type 0 where
+  pub parts : List InputPart
+  pub written : AreOneValue source tokens parts
+  pub valued : value ≡ value_of parts
 
 -- The bytes of a line spell `NAME = VALUE`, within the tokens that a text may have.
 pub record IsSpelled (bytes : List ℕ) (line : InputLine) : Type 0 where

@@ -1,5 +1,5 @@
 -- What only the code needs, in terms of the definitions. No claim on runs rests on these.
-use Rattle.std.specs.Prelude.{◌≡◌, ◌<◌, ℕ, ◌==◌, ◌^◌, pos, ◌-ℤ◌, Bool, true, false, not, ◌&&◌, if◌then◌else◌, List, [], ◌∷◌, ◌++◌, length, codes, Option, Some, None, option_map}
+use Rattle.std.specs.Prelude.{◌≡◌, ◌<◌, ℕ, suc, ◌-◌, ◌==◌, ◌^◌, pos, ◌-ℤ◌, Bool, true, false, not, ◌&&◌, if◌then◌else◌, List, [], ◌∷◌, ◌++◌, length, codes, Option, Some, None, option_map, option_and_then}
 use Rattle.std.specs.List.{All, position_or_len}
 use denote.Enum.Bare.{sameb}
 use Rattle.spx_text.specs.declared.place.Place.{Place}
@@ -17,10 +17,15 @@ use Rattle.spx_term.specs.declared.value.Value.{Value}
 use Rattle.spx_term.specs.declared.value.Value.TheVariants as value
 use Rattle.spx_report.specs.Report.{place_text}
 use Rattle.spx_run.specs.declared.inputs.InputValue.{InputValue}
-use Rattle.spx_run.specs.declared.inputs.InputValue.TheVariants.{Number, Word}
+use Rattle.spx_run.specs.declared.inputs.InputValue.TheVariants.{Number}
+use Rattle.spx_run.specs.declared.inputs.InputPart.{InputPart}
+use Rattle.spx_run.specs.declared.inputs.InputPart.TheVariants as part
+use Rattle.spx_run.specs.declared.values.Expected.{Expected}
+use Rattle.spx_run.specs.declared.values.Expected.TheVariants as expected
+use Rattle.spx_run.specs.declared.values.Reading.{Reading}
 use Rattle.spx_run.specs.declared.inputs.InputLine.{InputLine}
 use Rattle.spx_run.specs.Given.{import_named, is_word}
-use Rattle.spx_run.specs.Inputs.{IsLine}
+use Rattle.spx_run.specs.Inputs.{IsLine, value_of}
 
 -- ---- tokens
 
@@ -40,22 +45,56 @@ same_kind = sameb the_type
 abbrev pub is_token : Kind → Token → Bool
 is_token what t = same_kind t.kind what && not t.marked
 
--- the value that one token is
-abbrev pub single_value : List ℕ → Token → Option InputValue
-single_value source t =
-    if is_token kind.Number t then Some (Number t.number)
-    else if is_token kind.Identifier t then Some (Word (spelling source t)) else None
+-- a reading with this part more
+abbrev pub with_part : Reading → InputPart → ℕ → Expected → Reading
+with_part r part depth expected = record { parts = r.parts ++ part ∷ []; depth = depth; expected = expected }
 
--- the value that two tokens are
-abbrev pub negative_value : Token → Token → Option InputValue
-negative_value minus t = if is_token kind.Minus minus && is_token kind.Number t then Some (Number (pos 0 -ℤ t.number)) else None
+-- the reading after this token, where a value begins
+abbrev pub begin_value : List ℕ → Reading → Token → Option Reading
+begin_value source r t =
+    if is_token kind.LeftParenthesis t then Some (with_part r part.Open (suc r.depth) expected.Value)
+    else if is_token kind.Minus t then Some (record { parts = r.parts; depth = r.depth; expected = expected.Number })
+    else if is_token kind.Number t then Some (with_part r (part.Number t.number) r.depth expected.Mark)
+    else if is_token kind.Identifier t then Some (with_part r (part.Word (spelling source t)) r.depth expected.Mark) else None
+
+-- the reading after this token, after `-`
+abbrev pub negate_number : Reading → Token → Option Reading
+negate_number r t = if is_token kind.Number t then Some (with_part r (part.Number (pos 0 -ℤ t.number)) r.depth expected.Mark) else None
+
+-- the reading after this token, after a value
+abbrev pub end_value : Reading → Token → Option Reading
+end_value r t =
+    if r.depth == 0 then None
+    else if is_token kind.Comma t then Some (record { parts = r.parts; depth = r.depth; expected = expected.Value })
+    else if is_token kind.RightParenthesis t then Some (with_part r part.Close (r.depth - 1) expected.Mark) else None
+
+-- the reading after this token
+abbrev pub step : List ℕ → Expected → Reading → Token → Option Reading
+step source expected.Value r t = begin_value source r t
+step source expected.Number r t = negate_number r t
+step source expected.Mark r t = end_value r t
+
+abbrev pub is_mark : Expected → Bool
+is_mark expected.Value = false
+is_mark expected.Number = false
+is_mark expected.Mark = true
+
+-- the parts that are read, if a value is at its end
+abbrev pub finish : Reading → Option (List InputPart)
+finish r = if is_mark r.expected && r.depth == 0 then Some r.parts else None
+
+-- the parts after these tokens more
+abbrev pub parts_after : List ℕ → Reading → List Token → Option (List InputPart)
+parts_after source r [] = finish r
+parts_after source r (t ∷ ts) = option_and_then (λ next. parts_after source next ts) (step source r.expected r t)
+
+-- the parts of the value that tokens are
+abbrev pub parts_in : List ℕ → List Token → Option (List InputPart)
+parts_in source tokens = parts_after source (record { parts = []; depth = 0; expected = expected.Value }) tokens
 
 -- the value that tokens are
 abbrev pub value_in : List ℕ → List Token → Option InputValue
-value_in source [] = None
-value_in source (t ∷ []) = single_value source t
-value_in source (minus ∷ t ∷ []) = negative_value minus t
-value_in source (a ∷ b ∷ c ∷ more) = None
+value_in source tokens = option_map value_of (parts_in source tokens)
 
 -- the line of this number, name and value, where there is a value
 abbrev pub named_value : ℕ → List ℕ → Option InputValue → Option InputLine

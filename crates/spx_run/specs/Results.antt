@@ -1,13 +1,13 @@
 -- What `run` comes to, and what it prints.
 use Rattle.std.specs.Prelude.{ℕ, if◌then◌else◌, List, [], ◌∷◌, ◌++◌, length, flat_map, filter_map, Option, Some, None, option_map, slice_get, codes}
 use Rattle.std.specs.Fmt.{decimal, signed_decimal}
+use Rattle.std.specs.List.{join_by}
 use Rattle.spx_core.specs.declared.entity.VarId.{VarId}
 use Rattle.spx_core.specs.declared.program.Program.{Program}
 use Rattle.spx_core.specs.declared.subprogram.Sub.{Sub}
 use Rattle.spx_core.specs.Dependency.{exports}
 use Rattle.spx_core.specs.Formals.{formals}
-use Rattle.spx_term.specs.declared.value.Value.{Value}
-use Rattle.spx_term.specs.declared.value.Value.TheVariants as value
+use Rattle.spx_term.specs.declared.value.Value.{Value, Value-F, fold-Value}
 use Rattle.spx_meaning.specs.declared.bad.BadKind.{BadKind}
 use Rattle.spx_meaning.specs.declared.bad.BadKind.TheVariants as bad
 use Rattle.spx_meaning.specs.declared.bad.Bad.{Bad}
@@ -71,11 +71,24 @@ result_of p name turns file lines = result_at p name turns file lines (entry_nam
 
 -- ---- texts
 
+-- texts with a comma and a space between two
+abbrev pub separated : List (List ℕ) → List ℕ
+separated texts = join_by (λ text. text) (codes ", ") texts
+
+-- these texts in parentheses
+abbrev pub in_parentheses : List (List ℕ) → List ℕ
+in_parentheses texts = codes "(" ++ (separated texts ++ codes ")")
+
+-- the text of a value, where elements and fields have these texts
+abbrev pub value_step : Value-F (List ℕ) → List ℕ
+value_step (Value-F.Number n) = signed_decimal n
+value_step (Value-F.Truth b) = if b then codes "True" else codes "False"
+value_step (Value-F.Elements first texts) = in_parentheses texts
+value_step (Value-F.Fields texts) = in_parentheses texts
+
 -- a value in the form of an input
 abbrev pub value_text : Value → List ℕ
-value_text (value.Number n) = signed_decimal n
-value_text (value.Truth b) = if b then codes "True" else codes "False"
-value_text _ = []
+value_text = fold-Value (List ℕ) value_step
 
 -- `NAME = VALUE`
 unfoldable pub output_line : Output → List ℕ

@@ -85,10 +85,12 @@ fn written(class: Class, value: &InputValue) -> Option<Value>
         Class::Integer => match value {
             InputValue::Number(number) => Some(Value::Number(*number)),
             InputValue::Word(_) => None,
+            InputValue::Parts(_) => None,
         },
         Class::Boolean => match value {
             InputValue::Number(_) => None,
             InputValue::Word(word) => truth_written(word.as_bytes()),
+            InputValue::Parts(_) => None,
         },
         Class::Enumeration | Class::Composite => None,
     }

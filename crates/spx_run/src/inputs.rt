@@ -13,12 +13,23 @@ use sqlite_items::Items;
 use std::alloc::{AllocError, Global};
 use thiserror::Error;
 
+/// A part of a value in parentheses. Commas are left out, and a number after `-` is one part.
+#[derive(Drop)]
+pub enum InputPart {
+    Open,
+    Number(i128),
+    Word(Text),
+    Close,
+}
+
 /// A value as it is written.
 #[derive(Drop)]
 pub enum InputValue {
     Number(i128),
     /// `True`, `False`, or another word as it is spelled.
     Word(Text),
+    /// Values in parentheses, for elements or fields.
+    Parts(Items<InputPart>),
 }
 
 /// A line of an inputs file.

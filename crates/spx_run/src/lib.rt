@@ -12,7 +12,9 @@ pub mod laws;
 mod printing;
 mod reading;
 mod result;
+mod tokens;
+mod values;
 
 pub use entry::run;
-pub use inputs::{InputFault, InputLine, InputValue, Inputs, read_inputs};
+pub use inputs::{InputFault, InputLine, InputPart, InputValue, Inputs, read_inputs};
 pub use result::{InputFinding, Output, RunResult};

@@ -1,5 +1,5 @@
 // The text of what a run comes to.
-ghost use Rattle.std.specs.Prelude.{◌≡◌, ◌++◌, OnOk, flat_map};
+ghost use Rattle.std.specs.Prelude.{◌≡◌, ◌++◌, OnOk, flat_map, map};
 ghost use Rattle.spx_text.specs.Loads.{names};
 ghost use Rattle.spx_report.specs.Report.{counted};
 ghost use Rattle.spx_run.specs.Mirror.{name_line, place_line};
@@ -13,6 +13,7 @@ use spx_text::{Place, Text};
 use std::alloc::{AllocError, Global};
 
 /// A value in the form of an input.
+#[cycle(put_value)]
 fn put_value(alloc: Global, out: &mut Vec<u8>, value: &Value) -> Result<(), AllocError>
     ensures { OnOk result (out.new.items ≡ out.old.items ++ spec.value_text value.now) }
 {
@@ -20,9 +21,33 @@ fn put_value(alloc: Global, out: &mut Vec<u8>, value: &Value) -> Result<(), Allo
         Value::Number(number) => out.extend_from_slice(decimal(alloc, *number)?.as_slice()),
         Value::Truth(true) => out.extend_from_slice(b"True"),
         Value::Truth(false) => out.extend_from_slice(b"False"),
-        Value::Elements(_, _) => Ok(()),
-        Value::Fields(_) => Ok(()),
+        Value::Elements(_, elements) => put_values(alloc, out, elements.as_slice()),
+        Value::Fields(fields) => put_values(alloc, out, fields.as_slice()),
     }
+}
+
+/// Values in parentheses.
+#[cycle(put_value)]
+fn put_values(alloc: Global, out: &mut Vec<u8>, values: &[Value]) -> Result<(), AllocError>
+    ensures { OnOk result (out.new.items ≡ out.old.items ++ spec.in_parentheses (map spec.value_text values.now)) }
+{
+    out.extend_from_slice(b"(")?;
+    put_list(alloc, out, values)?;
+    out.extend_from_slice(b")")
+}
+
+/// These values with a comma and a space between two.
+#[cycle(put_value)]
+fn put_list(alloc: Global, out: &mut Vec<u8>, values: &[Value]) -> Result<(), AllocError>
+    ensures { OnOk result (out.new.items ≡ out.old.items ++ spec.separated (map spec.value_text values.now)) }
+{
+    let mut mark: &[u8] = b"";
+    for value in values {
+        out.extend_from_slice(mark)?;
+        put_value(alloc, out, value)?;
+        mark = b", ";
+    }
+    Ok(())
 }
 
 /// `NAME = VALUE`

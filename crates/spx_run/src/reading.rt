@@ -1,5 +1,5 @@
 // Lines of inputs, as the lexemes of the language.
-ghost use Rattle.std.specs.Prelude.{◌≡◌, ◌≤◌, List, length, true, IfOk};
+ghost use Rattle.std.specs.Prelude.{◌≡◌, ◌≤◌, List, length, IfOk};
 ghost use Rattle.spx_text.specs.Limits.{most_bytes};
 ghost use Rattle.spx_tree.specs.Form.{spelling};
 ghost use Rattle.spx_tree.specs.Mirror.{AreWithin, IsWithin};
@@ -7,84 +7,14 @@ ghost use Rattle.spx_tree.specs.Spells.{Spells};
 ghost use Rattle.spx_tree.specs.Stops.{HasMoreTokens, most_tokens};
 ghost use Rattle.spx_tree.specs.declared.token.Token.{Token};
 ghost use Rattle.spx_run.specs.Mirror as spec;
-ghost use Rattle.spx_run.specs.Mirror.{AreNatural, IsNatural, IsReadAs};
+ghost use Rattle.spx_run.specs.Mirror.{AreNatural, IsReadAs};
 
 use crate::inputs::{InputLine, InputValue};
+use crate::tokens::{is_token, spelled};
+use crate::values::value_in;
 use spx_lexer::{LexFault, lex, lex_least, one_least};
-use spx_text::Text;
 use spx_tree::{Kind, Token, one_spelling};
 use std::alloc::{AllocError, Global};
-
-/// Whether two kinds are one.
-#[tactic(auto, unfolding(crate::specs::Mirror::same_kind))]
-fn same_kind(a: Kind, b: Kind) -> bool
-    ensures { result ≡ spec.same_kind a b }
-{
-    a == b
-}
-
-/// Whether the token is one of this kind that is not in annotation text.
-fn is_token(kind: Kind, token: &Token) -> bool
-    ensures { result ≡ spec.is_token kind token.now }
-{
-    same_kind(token.kind, kind) && !token.marked
-}
-
-/// The bytes of a token.
-fn spelled(alloc: Global, source: &[u8], token: &Token) -> Result<Text, AllocError>
-    requires { IsWithin (length source.now) token.now }
-    ensures { IfOk result (λ text. text ≡ spelling source.now token.now) }
-{
-    Text::new(alloc, &source[token.first..token.after])
-}
-
-/// The value that one token is.
-fn single_value(
-    alloc: Global,
-    source: &[u8],
-    token: &Token,
-) -> Result<Option<InputValue>, AllocError>
-    requires { IsWithin (length source.now) token.now }
-    ensures { IfOk result (λ found. found ≡ spec.single_value source.now token.now) }
-{
-    if is_token(Kind::Number, token) {
-        return Ok(Some(InputValue::Number(token.number)));
-    }
-    if is_token(Kind::Identifier, token) {
-        return Ok(Some(InputValue::Word(spelled(alloc, source, token)?)));
-    }
-    Ok(None)
-}
-
-/// The value that two tokens are.
-fn negative_value(minus: &Token, token: &Token) -> Option<InputValue>
-    requires { IsNatural token.now }
-    ensures { result ≡ spec.negative_value minus.now token.now }
-{
-    if is_token(Kind::Minus, minus) && is_token(Kind::Number, token) {
-        Some(InputValue::Number(0 - token.number))
-    } else {
-        None
-    }
-}
-
-/// The value that tokens are.
-fn value_in(
-    alloc: Global,
-    source: &[u8],
-    tokens: &[Token],
-) -> Result<Option<InputValue>, AllocError>
-    requires within { AreWithin (length source.now) tokens.now }
-    requires natural { AreNatural tokens.now }
-    ensures { IfOk result (λ found. found ≡ spec.value_in source.now tokens.now) }
-{
-    match tokens {
-        [] => Ok(None),
-        [token] => single_value(alloc, source, token),
-        [minus, token] => Ok(negative_value(minus, token)),
-        [_, _, _, ..] => Ok(None),
-    }
-}
 
 /// The line of this number whose name and value these are.
 fn line_of(
