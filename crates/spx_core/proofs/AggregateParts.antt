@@ -27,7 +27,11 @@ use Rattle.spx_core.specs.declared.program.TypeForm.TheVariants.{Scalar, Array, 
 use Rattle.spx_core.specs.declared.rule.ExprType.{ExprType}
 use Rattle.spx_core.specs.declared.rule.ExprType.TheVariants.{Of}
 use Rattle.spx_core.specs.Contexts.{in_context}
-use Rattle.spx_core.specs.ResolvedAggregates.{Association, Choice, Known, after_choices, after_value, aggregate_of, aggregate_value, all_in_record, array_parts, associations, before_others, bounds_of, chosen_fields, common_type, field_bounds, field_chosen, field_role, field_value, from_index, from_position, in_array, in_record, index_bounds, element_value, indexes_of, listed_choices, positions_of, record_parts, types_at}
+use Rattle.spx_core.specs.declared.aggregate.Association.{Association}
+use Rattle.spx_core.specs.declared.aggregate.Choice.{Choice}
+use Rattle.spx_core.specs.ResolvedAggregates.{Known, after_choices, after_value, aggregate_of, aggregate_value, all_in_record, array_parts, associations, before_others, bounds_of, chosen_fields, common_type, field_bounds, field_chosen, field_role, field_value, from_index, from_position, in_array, in_record, index_bounds, element_value, indexes_of, listed_choices, positions_of, record_parts, types_at}
+use Rattle.spx_core.specs.Parts.{HasComponentsOf, IsOfArray, IsOfRecord}
+use Rattle.spx_core.proofs.AggregateRoles.{RolesAre, all_are, array_association, from_index_are, from_position_are, record_association}
 use Rattle.spx_core.proofs.WrittenAggregates.{Mapped, first_of, mapped_from, where_true}
 
 module _ (P : CoreExpr → Type 0) (contexts : (type : ExprType) (e : CoreExpr) → P e → P (in_context type e)) where
@@ -128,14 +132,31 @@ module _ (P : CoreExpr → Type 0) (contexts : (type : ExprType) (e : CoreExpr) 
       let chosen = chosen_fields fields x.from in
       subst Holds (sym x.value) (holds_all (in_record fields chosen) AssociationHolds (in_record_holds fields chosen) x.from (associations_hold lists parts x.from hold x.is))
 
+  -- what is written is as the type says
+  array_roles : (index element : Subtype) (written : Aggregate) (parts : List CoreExpr) (known : Known) → array_parts index element written parts ≡ Some known → RolesAre (IsOfArray index element) known
+  array_roles index element (Positional count) parts known is = subst (RolesAre (IsOfArray index element)) (sym (where_true (length parts == count) (from_index index.first element parts) known is)) (from_index_are index element index.first parts)
+  array_roles index element (Named lists) parts known is =
+      let x = mapped_from (λ (all : List Association). flat_map (in_array index element) all) (associations lists parts) known is in
+      subst (RolesAre (IsOfArray index element)) (sym x.value) (all_are (IsOfArray index element) (in_array index element) (array_association index element) x.from)
+
+  record_roles : (fields : List Field) (written : Aggregate) (parts : List CoreExpr) (known : Known) → record_parts fields written parts ≡ Some known → RolesAre (IsOfRecord fields) known
+  record_roles fields (Positional count) parts known is = subst (RolesAre (IsOfRecord fields)) (sym (where_true (length parts == count) (from_position fields 0 parts) known is)) (from_position_are fields 0 parts)
+  record_roles fields (Named lists) parts known is =
+      let x = mapped_from (all_in_record fields) (associations lists parts) known is in
+      subst (RolesAre (IsOfRecord fields)) (sym x.value) (all_are (IsOfRecord fields) (in_record fields (chosen_fields fields x.from)) (record_association fields (chosen_fields fields x.from)) x.from)
+
+  -- what closes an aggregate of this type
+  abbrev pub ClosesAggregate : CoreName → TypeId → Option TypeForm → Type 0
+  ClosesAggregate name id o = (x : Composition) (form : TypeForm) (parts : List CoreExpr) → x.of ≡ id → o ≡ Some form → HasComponentsOf x form → AllByRecursion P parts → P (expr.Aggregate name x parts)
+
   -- so it holds of the aggregate
-  pub aggregate_holds : ((name : CoreName) (x : Composition) (parts : List CoreExpr) → AllByRecursion P parts → P (expr.Aggregate name x parts)) → (name : CoreName) (place : Place) (written : Aggregate) (id : TypeId) (form : Option TypeForm) (parts : List CoreExpr) (a : CoreExpr)
-      → AllByRecursion P parts → aggregate_value name place written id form parts ≡ Some a → P a
-  aggregate_holds closes name place written id (Some (Array index element)) parts a hold is =
+  pub aggregate_holds : (name : CoreName) (place : Place) (written : Aggregate) (id : TypeId) (o : Option TypeForm) (parts : List CoreExpr) (a : CoreExpr)
+      → ClosesAggregate name id o → AllByRecursion P parts → aggregate_value name place written id o parts ≡ Some a → P a
+  aggregate_holds name place written id (Some (Array index element)) parts a closes hold is =
       let x = mapped_from (aggregate_of name place written id (Elements index)) (array_parts index element written parts) a is in
-      subst P (sym x.value) (closes name _ _ (array_parts_hold index element written parts x.from hold x.is))
-  aggregate_holds closes name place written id (Some (Record fields)) parts a hold is =
+      subst P (sym x.value) (closes _ (Array index element) _ refl refl (refl, array_roles index element written parts x.from x.is) (array_parts_hold index element written parts x.from hold x.is))
+  aggregate_holds name place written id (Some (Record fields)) parts a closes hold is =
       let x = mapped_from (aggregate_of name place written id (Fields (length fields))) (record_parts fields written parts) a is in
-      subst P (sym x.value) (closes name _ _ (record_parts_hold fields written parts x.from hold x.is))
-  aggregate_holds closes name place written id (Some Scalar) parts a hold is = absurd cc
-  aggregate_holds closes name place written id None parts a hold is = absurd cc
+      subst P (sym x.value) (closes _ (Record fields) _ refl refl (refl, record_roles fields written parts x.from x.is) (record_parts_hold fields written parts x.from hold x.is))
+  aggregate_holds name place written id (Some Scalar) parts a closes hold is = absurd cc
+  aggregate_holds name place written id None parts a closes hold is = absurd cc

@@ -7,6 +7,7 @@ use Rattle.spx_tree.specs.declared.expression.Expr.{Expr}
 use Rattle.spx_tree.specs.declared.expression.Name.{Name}
 use Rattle.spx_tree.specs.declared.expression.NameStep.{NameStep}
 use Rattle.spx_tree.specs.declared.expression.Path.{Path}
+use Rattle.spx_core.specs.declared.aggregate.Composition.{Composition}
 use Rattle.spx_core.specs.declared.entity.Entity.{Entity}
 use Rattle.spx_core.specs.declared.entity.Entity.TheVariants as entity
 use Rattle.spx_core.specs.declared.entity.TypeId.{TypeId}
@@ -28,7 +29,7 @@ use Rattle.spx_core.specs.declared.rule.ExprType.{ExprType}
 use Rattle.spx_core.specs.declared.rule.ExprType.TheVariants.{Of}
 use Rattle.spx_core.specs.Contexts.{in_context}
 use Rattle.spx_core.specs.NamedParts.{along, form_in}
-use Rattle.spx_core.specs.Parts.{IsAsFormed, Part, an_element, a_field, field_of_form, form_at, parts_in, parts_on_way, parts_step}
+use Rattle.spx_core.specs.Parts.{HasComponentsOf, IsAsFormed, Part, an_aggregate, an_element, a_field, field_of_form, form_at, parts_in, parts_on_way, parts_step}
 use Rattle.spx_core.specs.Regions.{Regions, denoted}
 use Rattle.spx_core.specs.ResolvedExpressions.{Scene, in_code, resolved_in, resolved_name, resolved_target, step_in_context, target_along, target_at, target_of}
 use Rattle.spx_core.proofs.Callers.Expressions.{fold-Number, fold-Name, fold-Entry, fold-Attribute, fold-Applied, fold-Parenthesized, fold-Prefix, fold-Infix, fold-InType, fold-InRange, fold-Element, fold-Selected, fold-ArrayAttribute, fold-Faulty, fold-Aggregate}
@@ -64,6 +65,9 @@ module _ (p : Program) (types : List TypeRow) (within : (id : TypeId) (f : TypeF
   fields_formed : (x : Selection) (fields : List Field) → form_in types x.record ≡ Some (Record fields) → option_map (λ (field : Field). field.subtype) (slice_get fields x.position) ≡ Some x.field → IsAsFormed p (a_field x)
   fields_formed x fields is found = ap (option_and_then (field_of_form x.position)) (within x.record (Record fields) is) ∙ found
 
+  aggregates_formed : (x : Composition) (form : TypeForm) → form_in types x.of ≡ Some form → HasComponentsOf x form → IsAsFormed p (an_aggregate x)
+  aggregates_formed x form is has = (form, within x.of form is, has)
+
   abbrev AllFormed : List Part → Type 0
   AllFormed parts = AllByRecursion (IsAsFormed p) parts
 
@@ -71,7 +75,7 @@ module _ (p : Program) (types : List TypeRow) (within : (id : TypeId) (f : TypeF
   all_formed [] all = tt
   all_formed (e ∷ parts) all = each_append (IsAsFormed p) (parts_in e) (flat_map (λ (more : List Part). more) (map parts_in parts)) all.0 (all_formed parts all.1)
 
-  forms_keep : (regions : Regions) → Closes Formed (IsAsFormed p) types elements_formed fields_formed regions
+  forms_keep : (regions : Regions) → Closes Formed (IsAsFormed p) types elements_formed fields_formed aggregates_formed regions
   forms_keep regions = record {
     number = λ n place. subst AllFormed (sym (fold-Number parts_step n place)) tt;
     name = λ word. subst AllFormed (sym (fold-Name parts_step (resolved_name regions word))) tt;
@@ -88,7 +92,7 @@ module _ (p : Program) (types : List TypeRow) (within : (id : TypeId) (f : TypeF
     element = λ a place i x known is index. subst AllFormed (sym (fold-Element parts_step a place i x)) (known, each_append (IsAsFormed p) (parts_in a) (parts_in i) is index);
     selected = λ a field x known is. subst AllFormed (sym (fold-Selected parts_step a field x)) (known, is);
     array_attribute = λ a designator x is. subst AllFormed (sym (fold-ArrayAttribute parts_step a designator x)) tt;
-    aggregate = λ name x parts all. subst AllFormed (sym (fold-Aggregate parts_step name x parts)) (all_formed parts all);
+    aggregate = λ name x parts known all. subst AllFormed (sym (fold-Aggregate parts_step name x parts)) (known, all_formed parts all);
     contexts = λ type e is. subst AllFormed (sym (parts_in_context type e)) is;
     faulty = λ faulty. subst AllFormed (sym (fold-Faulty parts_step faulty)) tt;
   }
@@ -96,18 +100,18 @@ module _ (p : Program) (types : List TypeRow) (within : (id : TypeId) (f : TypeF
   -- whatever type it meets
   pub formed_in_context : (scene : Scene) → scene.types ≡ types → (type : ExprType) (regions : Regions) (e : Expr) → Formed (in_context type (resolved_in scene regions e))
   formed_in_context scene same type regions e =
-      subst AllFormed (sym (parts_in_context type (resolved_in scene regions e))) (resolved_holds Formed (IsAsFormed p) types elements_formed fields_formed regions (forms_keep regions) scene same e)
+      subst AllFormed (sym (parts_in_context type (resolved_in scene regions e))) (resolved_holds Formed (IsAsFormed p) types elements_formed fields_formed aggregates_formed regions (forms_keep regions) scene same e)
 
   -- ---- targets
 
-  way_formed : (way : List PartStep) → AllByRecursion (StepHolds Formed (IsAsFormed p) types elements_formed fields_formed) way → AllFormed (parts_on_way (map step_in_context way))
+  way_formed : (way : List PartStep) → AllByRecursion (StepHolds Formed (IsAsFormed p) types elements_formed fields_formed aggregates_formed) way → AllFormed (parts_on_way (map step_in_context way))
   way_formed [] all = tt
   way_formed (part.Index place i x ∷ way) all =
       (all.0.0, each_append (IsAsFormed p) (parts_in (in_context (Of x.index.base) i)) (parts_on_way (map step_in_context way)) (subst AllFormed (sym (parts_in_context (Of x.index.base) i)) all.0.1) (way_formed way all.1))
   way_formed (part.Field field x ∷ way) all = (all.0, way_formed way all.1)
 
   target_at_formed : (root : CoreName) (path : Path) (parts : List CoreExpr) (fault : NameFault) (way : List PartStep) (rest : List NameStep) (left : List CoreExpr)
-      → AllByRecursion (StepHolds Formed (IsAsFormed p) types elements_formed fields_formed) way → AllFormed (parts_on_way (target_at root path parts fault way rest left).way)
+      → AllByRecursion (StepHolds Formed (IsAsFormed p) types elements_formed fields_formed aggregates_formed) way → AllFormed (parts_on_way (target_at root path parts fault way rest left).way)
   target_at_formed root path parts fault way [] [] all = way_formed way all
   target_at_formed root path parts fault way rest left all = tt
 
@@ -121,10 +125,10 @@ module _ (p : Program) (types : List TypeRow) (within : (id : TypeId) (f : TypeF
       at_root : (e : Option Entity) → AllFormed (parts_on_way (by_root e).way)
       at_root (Some (entity.Variable v object)) =
           let x = along types object.subtype path.steps parts in
-          target_at_formed name path parts _ x.way x.rest x.parts (along_holds Formed (IsAsFormed p) types elements_formed fields_formed object.subtype path.steps parts all).0
+          target_at_formed name path parts _ x.way x.rest x.parts (along_holds Formed (IsAsFormed p) types elements_formed fields_formed aggregates_formed object.subtype path.steps parts all).0
       at_root other = target_at_formed name path parts _ [] path.steps parts tt
 
   pub target_formed : (regions : Regions) (name : Name) → AllFormed (parts_on_way (resolved_target types regions name).way)
   target_formed regions name =
       target_of_formed (resolved_name regions name.path.root) name.path (map (resolved_in (in_code types) regions) name.parts) (denoted regions name.path.root.text) refl
-      (all_resolved_hold Formed (IsAsFormed p) types elements_formed fields_formed regions (forms_keep regions) (in_code types) refl name.parts)
+      (all_resolved_hold Formed (IsAsFormed p) types elements_formed fields_formed aggregates_formed regions (forms_keep regions) (in_code types) refl name.parts)

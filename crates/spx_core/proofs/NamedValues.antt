@@ -35,7 +35,7 @@ use Rattle.spx_core.specs.declared.program.TypeForm.TheVariants.{Array, Record}
 use Rattle.spx_core.specs.declared.program.TypeRow.{TypeRow}
 use Rattle.spx_core.specs.Judged.{is_attribute}
 use Rattle.spx_core.specs.NamedParts.{Along, OneStep, along, ends_at, field_named, field_step, followed, form_in, going, part_step}
-use Rattle.spx_core.specs.Parts.{Part, an_element, a_field}
+use Rattle.spx_core.specs.Parts.{HasComponentsOf, Part, an_aggregate, an_element, a_field}
 use Rattle.spx_core.specs.Regions.{Regions, denoted}
 use Rattle.spx_core.specs.ResolvedExpressions.{Scene, array_end, entry_of, expr_step, or_faulty, part_value, resolved_in, resolved_name, value_along, value_at, value_after, value_of_other, value_of_path, value_of_type, value_of_variable}
 use Rattle.spx_core.specs.ResolvedAggregates.{aggregate_value}
@@ -80,7 +80,8 @@ all_left P (suc n) (x ∷ xs) all = all_left P n xs all.1
 -- One thing holds of expressions, and one of parts that the table says.
 module _ (P : CoreExpr → Type 0) (Known : Part → Type 0) (types : List TypeRow)
     (elements : (x : Indexing) → form_in types x.array ≡ Some (Array x.index x.element) → Known (an_element x))
-    (fields_are : (x : Selection) (fields : List Field) → form_in types x.record ≡ Some (Record fields) → option_map (λ (field : Field). field.subtype) (slice_get fields x.position) ≡ Some x.field → Known (a_field x)) where
+    (fields_are : (x : Selection) (fields : List Field) → form_in types x.record ≡ Some (Record fields) → option_map (λ (field : Field). field.subtype) (slice_get fields x.position) ≡ Some x.field → Known (a_field x))
+    (aggregates : (x : Composition) (form : TypeForm) → form_in types x.of ≡ Some form → HasComponentsOf x form → Known (an_aggregate x)) where
   abbrev pub StepHolds : PartStep → Type 0
   StepHolds (part.Index place i x) = Known (an_element x) × P i
   StepHolds (part.Field field x) = Known (a_field x)
@@ -131,7 +132,7 @@ module _ (P : CoreExpr → Type 0) (Known : Part → Type 0) (types : List TypeR
     pub element : (a : CoreExpr) (place : Place) (i : CoreExpr) (x : Indexing) → Known (an_element x) → P a → P i → P (expr.Element a place i x)
     pub selected : (a : CoreExpr) (field : Identifier) (x : Selection) → Known (a_field x) → P a → P (expr.Selected a field x)
     pub array_attribute : (a : CoreExpr) (designator : Identifier) (x : ArrayEnds) → P a → P (expr.ArrayAttribute a designator x)
-    pub aggregate : (name : CoreName) (x : Composition) (parts : List CoreExpr) → AllByRecursion P parts → P (expr.Aggregate name x parts)
+    pub aggregate : (name : CoreName) (x : Composition) (parts : List CoreExpr) → Known (an_aggregate x) → AllByRecursion P parts → P (expr.Aggregate name x parts)
     pub contexts : (type : ExprType) (e : CoreExpr) → P e → P (in_context type e)
     pub faulty : (faulty : FaultyName) → P (expr.Faulty faulty)
 
@@ -194,7 +195,8 @@ module _ (P : CoreExpr → Type 0) (Known : Part → Type 0) (types : List TypeR
         aggregate_steps_hold word of place form steps parts all None is = other_holds word (step.Qualified place form ∷ steps) parts all
         aggregate_steps_hold word of place form steps parts all (Some a) is =
             value_along_holds (resolved_name regions word) _ parts a (along scene.types of steps (drop (aggregate_takes form) parts))
-            (aggregate_holds P c.contexts c.aggregate (resolved_name regions word) place form of.base.id (form_in scene.types of.base.id) (take (aggregate_takes form) parts) a (all_taken P (aggregate_takes form) parts all) is)
+            (aggregate_holds P c.contexts (resolved_name regions word) place form of.base.id (form_in scene.types of.base.id) (take (aggregate_takes form) parts) a
+            (λ x f ps at known has each. c.aggregate (resolved_name regions word) x ps (aggregates x f (ap (form_in types) at ∙ ap (λ (ts : List TypeRow). form_in ts of.base.id) (sym same) ∙ known) has) each) (all_taken P (aggregate_takes form) parts all) is)
             (along_scene_holds of steps (drop (aggregate_takes form) parts) (all_left P (aggregate_takes form) parts all))
 
         type_holds : (word : Identifier) (of : Subtype) (steps : List NameStep) (parts : List CoreExpr) → AllByRecursion P parts → P (value_of_type scene (resolved_name regions word) of (record { root = word; steps = steps }) parts)

@@ -187,7 +187,7 @@ module _ (T : Subtype → Type 0) (P : VarId → Object → Type 0) where
     all_known [] all = tt
     all_known (e ∷ parts) all = both_known (names_read e) (flat_map (λ (names : List CoreName). names) (map names_read parts)) all.0 (all_known parts all.1)
 
-    forms_keep : (types : List TypeRow) → Closes ReadsKnown (λ part. ⊤) types (λ x is. tt) (λ x fields is found. tt) regions
+    forms_keep : (types : List TypeRow) → Closes ReadsKnown (λ part. ⊤) types (λ x is. tt) (λ x fields is found. tt) (λ x form is has. tt) regions
     forms_keep types = record {
       number = λ n place. subst AreKnown (sym (fold-Number names_step n place)) tt;
       name = λ word. subst AreKnown (sym (fold-Name names_step (resolved_name regions word))) (denoted_holds regions word.text all, tt);
@@ -202,27 +202,27 @@ module _ (T : Subtype → Type 0) (P : VarId → Object → Type 0) where
       element = λ a place i x known is index. subst AreKnown (sym (fold-Element names_step a place i x)) (both_known _ _ is index);
       selected = λ a field x known is. subst AreKnown (sym (fold-Selected names_step a field x)) is;
       array_attribute = λ a designator x is. subst AreKnown (sym (fold-ArrayAttribute names_step a designator x)) tt;
-      aggregate = λ name x parts all. subst AreKnown (sym (fold-Aggregate names_step name x parts)) (all_known parts all);
+      aggregate = λ name x parts known all. subst AreKnown (sym (fold-Aggregate names_step name x parts)) (all_known parts all);
       contexts = λ type e is. subst AreKnown (sym (reads_in_context type e)) is;
       faulty = λ faulty. subst AreKnown (sym (fold-Faulty names_step faulty)) tt;
     }
 
     module _ (scene : Scene) where
       pub read_known : (e : Expr) → ReadsKnown (resolved_in scene regions e)
-      read_known e = resolved_holds ReadsKnown (λ part. ⊤) scene.types (λ x is. tt) (λ x fields is found. tt) regions (forms_keep scene.types) scene refl e
+      read_known e = resolved_holds ReadsKnown (λ part. ⊤) scene.types (λ x is. tt) (λ x fields is found. tt) (λ x form is has. tt) regions (forms_keep scene.types) scene refl e
 
       pub used_variable : (v : VarId) (e : Expr) → uses v (resolved_in scene regions e) ≡ true → (object : Object) × P v object
       used_variable v e h = known_variable v (names_read (resolved_in scene regions e)) (read_known e) h
 
     -- ---- the names on the way to a target
 
-    way_known : (types : List TypeRow) (way : List PartStep) → AllByRecursion (StepHolds ReadsKnown (λ part. ⊤) types (λ x is. tt) (λ x fields is found. tt)) way → AreKnown (names_on_way (map step_in_context way))
+    way_known : (types : List TypeRow) (way : List PartStep) → AllByRecursion (StepHolds ReadsKnown (λ part. ⊤) types (λ x is. tt) (λ x fields is found. tt) (λ x form is has. tt)) way → AreKnown (names_on_way (map step_in_context way))
     way_known types [] known = tt
     way_known types (part.Index place i x ∷ way) known = both_known _ _ (subst AreKnown (sym (reads_in_context (Of x.index.base) i)) known.0.1) (way_known types way known.1)
     way_known types (part.Field field x ∷ way) known = way_known types way known.1
 
     target_at_known : (types : List TypeRow) (root : CoreName) (path : Path) (parts : List CoreExpr) (fault : NameFault) (way : List PartStep) (rest : List NameStep) (left : List CoreExpr)
-        → AllByRecursion (StepHolds ReadsKnown (λ part. ⊤) types (λ x is. tt) (λ x fields is found. tt)) way → AreKnown (names_on_way (target_at root path parts fault way rest left).way)
+        → AllByRecursion (StepHolds ReadsKnown (λ part. ⊤) types (λ x is. tt) (λ x fields is found. tt) (λ x form is has. tt)) way → AreKnown (names_on_way (target_at root path parts fault way rest left).way)
     target_at_known types root path parts fault way [] [] known = way_known types way known
     target_at_known types root path parts fault way rest left known = tt
 
@@ -236,14 +236,14 @@ module _ (T : Subtype → Type 0) (P : VarId → Object → Type 0) where
         at_root : (e : Option Entity) → AreKnown (names_on_way (by_root e).way)
         at_root (Some (entity.Variable v object)) =
             let x = along types object.subtype path.steps parts in
-            target_at_known types name path parts _ x.way x.rest x.parts (along_holds ReadsKnown (λ part. ⊤) types (λ x is. tt) (λ x fields is found. tt) object.subtype path.steps parts known).0
+            target_at_known types name path parts _ x.way x.rest x.parts (along_holds ReadsKnown (λ part. ⊤) types (λ x is. tt) (λ x fields is found. tt) (λ x form is has. tt) object.subtype path.steps parts known).0
         at_root other = target_at_known types name path parts _ [] path.steps parts tt
 
     -- those that its indexes read
     pub target_known : (types : List TypeRow) (name : Name) → AreKnown (names_on_way (resolved_target types regions name).way)
     target_known types name =
         target_of_known types (resolved_name regions name.path.root) name.path (map (resolved_in (in_code types) regions) name.parts) (denoted regions name.path.root.text) refl
-        (all_resolved_hold ReadsKnown (λ part. ⊤) types (λ x is. tt) (λ x fields is found. tt) regions (forms_keep types) (in_code types) refl name.parts)
+        (all_resolved_hold ReadsKnown (λ part. ⊤) types (λ x is. tt) (λ x fields is found. tt) (λ x form is has. tt) regions (forms_keep types) (in_code types) refl name.parts)
 
 -- ---- the root of a target
 

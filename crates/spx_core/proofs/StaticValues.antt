@@ -30,7 +30,7 @@ use Rattle.spx_core.specs.declared.rule.RuleName.TheVariants.{N3, N10, N12, N14,
 use Rattle.spx_core.specs.declared.rule.Typing.{Typing}
 use Rattle.spx_core.specs.HasType.{HasType, number, name, entered, attribute_of, applied, parenthesized, converted, signed, operated, in_type, in_range, element_of, selected_of, attribute_of_array, composed_of}
 use Rattle.spx_core.specs.Judged.{has_right_components, judged_parts, ◌>>=◌, keeps, standing_at, value_at, function_at, has_end, attribute_function, applied_form, application, attribute, attribute_of as end_of, has_attribute, indexed, is_attribute, is_word, judged, named_object, named_type, typing}
-use Rattle.spx_core.specs.Types.{both_held, has_literals, has_numbers, has_parts, has_truths, is_boolean, is_held, is_typed_at, lies_in, lies_in_operand, lies_within, member_value, result_of, right_type, signed_result, three_fit, is_number, is_numeric, is_of, is_parted, is_taken, left_type, meet, met, operand_fits, operands_fit, result_type, same_class, shifted_value}
+use Rattle.spx_core.specs.Types.{both_held, has_literals, has_numbers, has_parts, has_truths, is_boolean, is_held, is_typed_at, lies_in, lies_in_operand, lies_within, member_value, result_of, right_type, signed_result, three_fit, is_number, is_numeric, is_of, is_parted, is_taken, left_type, meet, met, operand_fits, operands_fit, result_type, same_class, shifted_value, is_type_at}
 use Rattle.spx_core.proofs.Judgements.{bound, kept, ok_is}
 use Rattle.spx_core.proofs.TypedLaws.{sound}
 
@@ -225,7 +225,8 @@ static_plain _ _ (operated o place a b l r t d c h) n is =
     along same (result_plain o l.of r.of (kept N10 place _ fits.1))
 static_plain _ _ (composed_of c x parts typings t d h) n is =
     let s = bound (named_type c) _ t h in
-    let k = bound (keeps N16 c.name.place (has_right_components x (map Ok typings))) _ t s.2 in
+    let i = bound (keeps N10 c.name.place (is_type_at x.of s.0.base)) _ t s.2 in
+    let k = bound (keeps N16 c.name.place (has_right_components x (map Ok typings))) _ t i.2 in
     let p = bound (judged_parts x.roles (map Ok typings)) _ t k.2 in
     not_static (Of s.0.base) c.name.place t (ok_is p.2) n is
 static_plain _ _ (in_type o place a type_name x t subtype d named h) n is =

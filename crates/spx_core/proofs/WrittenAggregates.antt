@@ -26,7 +26,9 @@ use Rattle.spx_core.specs.declared.expression.CoreExpr.{CoreExpr, CoreExpr-F, ou
 use Rattle.spx_core.specs.declared.program.Field.{Field}
 use Rattle.spx_core.specs.declared.rule.ExprType.TheVariants.{Of}
 use Rattle.spx_core.specs.WrittenExpressions.{erased_expr, erased_step, named, with_fields}
-use Rattle.spx_core.specs.ResolvedAggregates.{aggregate_of, aggregate_value, all_in_record, array_parts, chosen_fields, record_parts, Association, Choice, Known, after_choices, after_value, associations, before_others, bounds_of, common_type, element_value, field_bounds, field_chosen, field_role, field_value, from_index, from_position, in_array, in_record, index_bounds, indexes_of, listed_choices, positions_of, types_at}
+use Rattle.spx_core.specs.declared.aggregate.Association.{Association}
+use Rattle.spx_core.specs.declared.aggregate.Choice.{Choice}
+use Rattle.spx_core.specs.ResolvedAggregates.{aggregate_of, aggregate_value, all_in_record, array_parts, chosen_fields, record_parts, Known, after_choices, after_value, associations, before_others, bounds_of, common_type, element_value, field_bounds, field_chosen, field_role, field_value, from_index, from_position, in_array, in_record, index_bounds, indexes_of, listed_choices, positions_of, types_at}
 use Rattle.spx_core.specs.declared.aggregate.Given.{Given}
 use Rattle.spx_core.specs.declared.aggregate.Given.TheVariants as given
 use Rattle.spx_core.specs.declared.entity.BaseType.{BaseType}

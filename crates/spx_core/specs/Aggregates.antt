@@ -12,6 +12,7 @@ use Rattle.spx_core.specs.declared.aggregate.Given.{Given}
 use Rattle.spx_core.specs.declared.aggregate.Given.TheVariants as given
 use Rattle.spx_core.specs.declared.aggregate.Role.{Role}
 use Rattle.spx_core.specs.declared.aggregate.Role.TheVariants as role
+use Rattle.spx_core.specs.declared.expression.CoreExpr.{CoreExpr}
 use Rattle.spx_core.specs.declared.function.Span.{Span}
 use Rattle.spx_core.specs.Types.{are_apart, cover, span_of}
 
@@ -22,6 +23,14 @@ given_by other = []
 
 abbrev pub all_given : List Role → List Given
 all_given roles = flat_map given_by roles
+
+-- the expressions of an aggregate, each with what it is
+abbrev pub with_parts : List Role → List CoreExpr → List (Role × CoreExpr)
+with_parts (role.Index base ∷ roles) (e ∷ parts) = (role.Index base, e) ∷ with_parts roles parts
+with_parts (role.Value g of are_of_one ∷ roles) (e ∷ parts) = (role.Value g of are_of_one, e) ∷ with_parts roles parts
+with_parts (role.Field field ∷ roles) parts = with_parts roles parts
+with_parts (role.NoField place e ∷ roles) parts = with_parts roles parts
+with_parts roles parts = []
 
 -- one position
 abbrev pub span_at : ℕ → Span

@@ -9,6 +9,8 @@ use Rattle.spx_tree.specs.declared.expression.ChoiceForm.{ChoiceForm}
 use Rattle.spx_tree.specs.declared.expression.ChoiceForm.TheVariants.{Single, Range}
 use Rattle.spx_tree.specs.declared.expression.ChoiceList.{ChoiceList}
 use Rattle.spx_tree.specs.declared.expression.ChoiceList.TheVariants as choice_list
+use Rattle.spx_core.specs.declared.aggregate.Association.{Association}
+use Rattle.spx_core.specs.declared.aggregate.Choice.{Choice}
 use Rattle.spx_core.specs.declared.aggregate.Components.{Components}
 use Rattle.spx_core.specs.declared.name.CoreName.{CoreName}
 use Rattle.spx_core.specs.Places.{place_of}
@@ -32,19 +34,9 @@ use Rattle.spx_core.specs.declared.program.TypeForm.TheVariants.{Scalar, Array, 
 use Rattle.spx_core.specs.declared.rule.ExprType.TheVariants.{Of}
 use Rattle.spx_core.specs.Contexts.{in_context}
 use Rattle.spx_core.specs.StaticValues.{chosen_by}
-use Rattle.spx_core.specs.Types.{is_chosen}
+use Rattle.spx_core.specs.Types.{is_of}
 
 -- ---- associations
-
--- a choice: one expression, or the bounds of a range
-pub record Choice : Type 0 where
-  pub low : CoreExpr
-  pub high : Option CoreExpr
-
--- a value, and the choices before it, where `others` is none
-pub record Association : Type 0 where
-  pub choices : Option (List Choice)
-  pub value : CoreExpr
 
 -- goes on after the choices of these forms, which are the first of these expressions
 abbrev pub after_choices : List ChoiceForm → List CoreExpr → (List Choice → List CoreExpr → Option (List Association)) → Option (List Association)
@@ -159,7 +151,7 @@ common_type (of ∷ more ∷ rest) = in_both of (common_type (more ∷ rest))
 
 abbrev pub are_of_one : List Subtype → Bool
 are_of_one [] = true
-are_of_one (of ∷ rest) = list_all (λ (other : Subtype). other.base.id.0 == of.base.id.0) rest
+are_of_one (of ∷ rest) = list_all (λ (other : Subtype). is_of of.base (Of other.base)) rest
 
 abbrev pub field_value : List Field → List ℕ → CoreExpr → Role × Option CoreExpr
 field_value fields positions value =

@@ -1,6 +1,6 @@
 // Aggregates of arrays and records (Ada 95 RM 4.3).
 
-use crate::{BaseType, Span, Subtype, TypeId};
+use crate::{BaseType, CoreExpr, Span, Subtype, TypeId};
 use spx_text::Place;
 use spx_tree::{Aggregate, Expr, Identifier};
 use sqlite_items::{Boxed, Items};
@@ -49,4 +49,18 @@ pub struct Composition {
     pub of: TypeId,
     pub components: Components,
     pub roles: Items<Role>,
+}
+
+/// A choice of an aggregate: one expression, or the bounds of a range.
+#[derive(Drop)]
+pub struct Choice {
+    pub low: CoreExpr,
+    pub high: Option<CoreExpr>,
+}
+
+/// A value of an aggregate that names its components, and the choices before it; `others` is none.
+#[derive(Drop)]
+pub struct Association {
+    pub choices: Option<Items<Choice>>,
+    pub value: CoreExpr,
 }
