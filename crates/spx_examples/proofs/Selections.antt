@@ -45,7 +45,8 @@ use Rattle.spx_core.specs.ResolvedStatements.{Part, resolved_alternative, resolv
 use Rattle.spx_core.specs.Resolved.{around_body}
 use Rattle.spx_core.specs.ResolvedStatements as resolving
 use Rattle.spx_core.specs.Shapes as shape
-use Rattle.spx_core.specs.Statements.{are_given_once, first_name_breach, judged_command, static_at}
+use Rattle.spx_core.specs.Statements.{are_given_once, first_name_breach, judged_command}
+use Rattle.spx_core.specs.Judged.{static_at}
 use Rattle.spx_core.specs.Types.{is_ordered, is_same_type, lies_in}
 use Rattle.spx_core.specs.Uses.{variable_of}
 use Rattle.spx_core.proofs.Callers.Expressions.{fold-Applied, fold-Name}

@@ -1,7 +1,7 @@
 // What expressions are, or the first rule that is broken in them (Ada 95 RM 4.4, 4.5, 4.9).
 ghost use Rattle.std.specs.Prelude.{◌≡◌};
 ghost use Rattle.spx_core.specs.Judged as rules;
-ghost use Rattle.spx_core.specs.Statements.{static_at};
+ghost use Rattle.spx_core.specs.Judged.{static_at};
 ghost use Rattle.spx_types.specs.TypeIds.{base_id, static, type_id};
 
 use crate::attributes::{array_attribute, attribute};
