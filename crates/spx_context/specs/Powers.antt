@@ -1,5 +1,6 @@
 -- Whether there is a power in an expression.
 use Rattle.std.specs.Prelude.{Bool, true, false, ◌||◌}
+use Rattle.std.specs.List.{list_any}
 use Rattle.spx_tree.specs.declared.expression.InfixOp.{InfixOp}
 use Rattle.spx_tree.specs.declared.expression.InfixOp.TheVariants as op
 use Rattle.spx_core.specs.declared.expression.CoreExpr.{CoreExpr, CoreExpr-F, fold-CoreExpr}
@@ -25,6 +26,7 @@ power_step (CoreExpr-F.InRange op place tested low high) = tested || (low || hig
 power_step (CoreExpr-F.Element a place i x) = a || i
 power_step (CoreExpr-F.Selected a field x) = a
 power_step (CoreExpr-F.ArrayAttribute a designator x) = a
+power_step (CoreExpr-F.Aggregate name c parts) = list_any (λ is_one. is_one) parts
 power_step (CoreExpr-F.Faulty faulty) = false
 
 -- there is a power in the expression
