@@ -1,3 +1,4 @@
+pub mod Aggregates
 pub mod Terms
 pub mod EntryNames
 pub mod Functions
