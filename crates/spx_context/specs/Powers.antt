@@ -28,6 +28,6 @@ power_step (CoreExpr-F.ArrayAttribute a designator x) = a
 power_step (CoreExpr-F.Aggregate name c parts) = false
 power_step (CoreExpr-F.Faulty faulty) = false
 
--- There is a power in the expression. An aggregate takes no type, and its expressions have met theirs.
+-- There is a power in the expression. An aggregate takes no type, and its values have met theirs.
 abbrev pub has_power : CoreExpr → Bool
 has_power = fold-CoreExpr Bool power_step

@@ -5,7 +5,7 @@ ghost use Rattle.spx_context.specs.Powers.{has_power};
 use spx_core::CoreExpr;
 use spx_tree::InfixOp;
 
-/// Whether there is a power in an expression, outside of aggregates. An aggregate takes no type, and its expressions have met theirs.
+/// Whether there is a power in an expression, outside of aggregates. An aggregate takes no type, and its values have met theirs.
 #[cycle(has_power)]
 pub fn has_power(expr: &CoreExpr) -> bool
     ensures { result ≡ has_power expr.now }
