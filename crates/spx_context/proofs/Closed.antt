@@ -1,5 +1,5 @@
 -- An expression without a power is static or has a type of its own.
-use Rattle.std.proofs.Common.{◌≡◌, ℤ, Bool, true, false, not, ◌&&◌, ◌||◌, is_some, Option, Some, None, Ok, Err, refl, sym, ap, ◌∙◌}
+use Rattle.std.proofs.Common.{◌≡◌, ℤ, Bool, true, false, not, ◌&&◌, ◌||◌, is_some, map, Option, Some, None, Ok, Err, refl, sym, ap, ◌∙◌}
 use Rattle.std.proofs.lemmas.Bool.{and_left, and_right, or_parts}
 use Rattle.spx_text.specs.declared.place.Place.{Place}
 use Rattle.spx_tree.specs.declared.expression.InfixOp.{InfixOp}
@@ -18,12 +18,12 @@ use Rattle.spx_core.specs.declared.function.Mapping.{Mapping}
 use Rattle.spx_core.specs.declared.rule.ExprType.{ExprType}
 use Rattle.spx_core.specs.declared.rule.ExprType.TheVariants.{Universal, Of}
 use Rattle.spx_core.specs.declared.rule.RuleName.{RuleName}
-use Rattle.spx_core.specs.declared.rule.RuleName.TheVariants.{N3, N10, N12, N14, N18}
+use Rattle.spx_core.specs.declared.rule.RuleName.TheVariants.{N3, N10, N12, N14, N16, N18}
 use Rattle.spx_core.specs.declared.rule.Typing.{Typing}
 use Rattle.spx_core.specs.Contexts.{is_open, is_universal}
-use Rattle.spx_core.specs.Judged.{array_attribute, has_end, Judged, ◌>>=◌, application, element, expr_step, has_attribute, indexed, is_attribute, judged, keeps, mapped, member_of_range, named_object, named_type, operation, ordered_type, selected, sign, standing_at, value_at}
-use Rattle.spx_core.specs.Types.{both_held, has_parts, is_held, is_of, is_taken, is_typed_at, left_type, lies_in, lies_in_operand, lies_within, met, operand_fits, operands_fit, result_of, result_type, right_type, shifted_value, signed_result, three_fit}
-use Rattle.spx_core.proofs.Callers.Expressions.{Cases, induct, fold-Number, fold-Name, fold-Entry, fold-Attribute, fold-Applied, fold-Parenthesized, fold-Implicit, fold-Prefix, fold-Infix, fold-InType, fold-InRange, fold-Element, fold-Selected, fold-ArrayAttribute, fold-Faulty}
+use Rattle.spx_core.specs.Judged.{array_attribute, has_end, has_right_components, Judged, ◌>>=◌, application, element, expr_step, has_attribute, indexed, is_attribute, judged, judged_parts, keeps, mapped, member_of_range, named_object, named_type, operation, ordered_type, selected, sign, standing_at, value_at}
+use Rattle.spx_core.specs.Types.{both_held, has_parts, is_held, is_of, is_taken, is_type_at, is_typed_at, left_type, lies_in, lies_in_operand, lies_within, met, operand_fits, operands_fit, result_of, result_type, right_type, shifted_value, signed_result, three_fit}
+use Rattle.spx_core.proofs.Callers.Expressions.{Cases, induct, fold-Number, fold-Name, fold-Entry, fold-Attribute, fold-Applied, fold-Parenthesized, fold-Implicit, fold-Prefix, fold-Infix, fold-InType, fold-InRange, fold-Element, fold-Selected, fold-ArrayAttribute, fold-Aggregate, fold-Faulty}
 use Rattle.spx_context.specs.Powers.{has_power, is_power, power_step}
 
 -- ---- judgements one after another
@@ -167,6 +167,12 @@ closed_cases = record {
   element = λ a place i x p q plain. ap is_open (fold-Element expr_step a place i x) ∙ then_closed (judged a) _ (λ t. then_closed (judged i) _ (λ k. element_closed x t k));
   selected = λ a field x p plain. ap is_open (fold-Selected expr_step a field x) ∙ then_closed (judged a) _ (λ t. selected_closed x t);
   array_attribute = λ a designator x p plain. ap is_open (fold-ArrayAttribute expr_step a designator x) ∙ then_closed (judged a) _ (λ t. ends_closed x designator t);
+  aggregate = λ name x parts all plain.
+      ap is_open (fold-Aggregate expr_step name x parts)
+      ∙ then_closed (named_type name) _ (λ subtype.
+      then_closed (keeps N10 name.name.place (is_type_at x.of subtype.base)) _ (λ _.
+      then_closed (keeps N16 name.name.place (has_right_components x (map judged parts))) _ (λ _.
+      then_closed (judged_parts x.roles (map judged parts)) _ (λ _. refl))));
   faulty = λ faulty plain. ap is_open (fold-Faulty expr_step faulty);
 }
 

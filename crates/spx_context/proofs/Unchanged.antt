@@ -9,7 +9,7 @@ use Rattle.spx_core.specs.declared.expression.CoreExpr.TheVariants.{Applied, Par
 use Rattle.spx_core.specs.declared.rule.ExprType.{ExprType}
 use Rattle.spx_core.specs.declared.rule.ExprType.TheVariants.{Universal, Of}
 use Rattle.spx_core.specs.declared.rule.Typing.{Typing}
-use Rattle.spx_core.specs.Contexts.{in_context, is_open, left_takes, met_by, met_by_operand, met_in_range, right_takes, taken, taking, taking-Number, taking-Name, taking-Entry, taking-Attribute, taking-Applied, taking-Parenthesized, taking-Implicit, taking-Prefix, taking-Infix, taking-InType, taking-InRange, taking-Element, taking-Selected, taking-ArrayAttribute, taking-Faulty, type_given}
+use Rattle.spx_core.specs.Contexts.{in_context, is_open, left_takes, met_by, met_by_operand, met_in_range, right_takes, taken, taking, taking-Number, taking-Name, taking-Entry, taking-Attribute, taking-Applied, taking-Parenthesized, taking-Implicit, taking-Prefix, taking-Infix, taking-InType, taking-InRange, taking-Element, taking-Selected, taking-ArrayAttribute, taking-Aggregate, taking-Faulty, type_given}
 use Rattle.spx_core.specs.Judged.{Judged, judged}
 use Rattle.spx_core.specs.Types.{is_numeric}
 use Rattle.spx_core.proofs.Callers.Expressions.{Cases, induct, fold-Applied, fold-Parenthesized, fold-Prefix, fold-Infix, fold-InType, fold-InRange, fold-Element, fold-Selected, fold-ArrayAttribute}
@@ -69,6 +69,7 @@ unchanged_cases = record {
       taking-Element None a place i x ∙ ap₂ (λ y z. Element y place z x) (p parts.0) (in_part (Of x.index.base) i parts.1 q);
   selected = λ a field x p plain. taking-Selected None a field x ∙ ap (λ y. Selected y field x) (p (sym (fold-Selected power_step a field x) ∙ plain));
   array_attribute = λ a designator x p plain. taking-ArrayAttribute None a designator x ∙ ap (λ y. ArrayAttribute y designator x) (p (sym (fold-ArrayAttribute power_step a designator x) ∙ plain));
+  aggregate = λ name x parts all plain. taking-Aggregate None name x parts;
   faulty = λ faulty plain. taking-Faulty None faulty;
 }
 

@@ -1,6 +1,5 @@
--- Whether there is a power in an expression.
+-- Whether there is a power in an expression, outside of aggregates.
 use Rattle.std.specs.Prelude.{Bool, true, false, ◌||◌}
-use Rattle.std.specs.List.{list_any}
 use Rattle.spx_tree.specs.declared.expression.InfixOp.{InfixOp}
 use Rattle.spx_tree.specs.declared.expression.InfixOp.TheVariants as op
 use Rattle.spx_core.specs.declared.expression.CoreExpr.{CoreExpr, CoreExpr-F, fold-CoreExpr}
@@ -26,9 +25,9 @@ power_step (CoreExpr-F.InRange op place tested low high) = tested || (low || hig
 power_step (CoreExpr-F.Element a place i x) = a || i
 power_step (CoreExpr-F.Selected a field x) = a
 power_step (CoreExpr-F.ArrayAttribute a designator x) = a
-power_step (CoreExpr-F.Aggregate name c parts) = list_any (λ is_one. is_one) parts
+power_step (CoreExpr-F.Aggregate name c parts) = false
 power_step (CoreExpr-F.Faulty faulty) = false
 
--- there is a power in the expression
+-- There is a power in the expression. An aggregate takes no type, and its values have met theirs.
 abbrev pub has_power : CoreExpr → Bool
 has_power = fold-CoreExpr Bool power_step

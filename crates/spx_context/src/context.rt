@@ -58,7 +58,7 @@ fn taking(
 }
 
 /// An expression that is not converted as a whole.
-#[tactic(auto, using(spx_core::specs::Contexts::taking_forms))]
+#[tactic(auto, using(spx_core::specs::Contexts::taking_forms, crate::proofs::Conversions::aggregates))]
 #[cycle(taking)]
 fn with_parts(
     alloc: Global,
@@ -110,6 +110,9 @@ fn with_parts(
         CoreExpr::ArrayAttribute(prefix, designator, ends) => {
             let prefix = taking(alloc, None, prefix)?;
             Boxed::new(alloc, CoreExpr::ArrayAttribute(prefix, designator, ends))
+        }
+        CoreExpr::Aggregate(name, composition, parts) => {
+            Boxed::new(alloc, CoreExpr::Aggregate(name, composition, parts))
         }
         CoreExpr::Faulty(faulty) => Boxed::new(alloc, CoreExpr::Faulty(faulty)),
     }

@@ -1,11 +1,11 @@
-// Which expressions have a power in them: no other takes a type.
+// Which expressions have a power in them outside of aggregates: no other takes a type.
 ghost use Rattle.std.specs.Prelude.{◌≡◌};
 ghost use Rattle.spx_context.specs.Powers.{has_power};
 
 use spx_core::CoreExpr;
 use spx_tree::InfixOp;
 
-/// Whether there is a power in an expression.
+/// Whether there is a power in an expression, outside of aggregates. An aggregate takes no type, and its values have met theirs.
 #[cycle(has_power)]
 pub fn has_power(expr: &CoreExpr) -> bool
     ensures { result ≡ has_power expr.now }
@@ -29,6 +29,7 @@ pub fn has_power(expr: &CoreExpr) -> bool
         CoreExpr::Element(prefix, _, index, _) => has_power(prefix.get()) || has_power(index.get()),
         CoreExpr::Selected(prefix, _, _) => has_power(prefix.get()),
         CoreExpr::ArrayAttribute(prefix, _, _) => has_power(prefix.get()),
+        CoreExpr::Aggregate(_, _, _) => false,
         CoreExpr::Faulty(_) => false,
     }
 }

@@ -1,5 +1,5 @@
 -- Terms of expressions, where a value is static and where none is.
-use Rattle.std.proofs.Common.{◌≡◌, Bool, true, false, if◌then◌else◌, ℤ, pos, Option, Some, None, Ok, Err, refl, sym, ap, ◌∙◌}
+use Rattle.std.proofs.Common.{◌≡◌, List, map, Bool, true, false, if◌then◌else◌, ℤ, pos, Option, Some, None, Ok, Err, refl, sym, ap, ◌∙◌}
 use Rattle.std.specs.Prelude.{⊤}
 use Rattle.spx_text.specs.declared.place.Place.{Place}
 use Rattle.spx_tree.specs.declared.expression.Identifier.{Identifier}
@@ -21,12 +21,16 @@ use Rattle.spx_core.specs.declared.part.Indexing.{Indexing}
 use Rattle.spx_core.specs.declared.part.Selection.{Selection}
 use Rattle.spx_core.specs.declared.rule.ExprType.{ExprType}
 use Rattle.spx_core.specs.declared.rule.ExprType.TheVariants.{Of}
-use Rattle.spx_core.specs.declared.rule.RuleName.TheVariants.{N10, N18}
-use Rattle.spx_core.specs.Types.{is_parted, is_typed_at}
-use Rattle.spx_core.specs.Judged.{Judged, ◌>>=◌, application, attribute_of, element, expr_step, indexed, judged, keeps, named_object, selected, typing}
+use Rattle.spx_core.specs.declared.rule.RuleName.TheVariants.{N10, N16, N18}
+use Rattle.spx_core.specs.Types.{is_parted, is_type_at, is_typed_at}
+use Rattle.spx_core.specs.declared.aggregate.Composition.{Composition}
+use Rattle.spx_core.specs.declared.entity.Subtype.{Subtype}
+use Rattle.spx_meaning.specs.Aggregates.{placed}
+use Rattle.spx_formula.specs.Aggregates.{composed_term}
+use Rattle.spx_core.specs.Judged.{Judged, ◌>>=◌, has_right_components, judged_parts, named_type, application, attribute_of, element, expr_step, indexed, judged, keeps, named_object, selected, typing}
 use Rattle.spx_core.specs.declared.rule.Typing.{Typing}
 use Rattle.spx_core.specs.Uses.{variable_of}
-use Rattle.spx_core.proofs.Callers.Expressions.{fold-Element, fold-Entry, fold-Faulty, fold-Number, fold-Parenthesized, fold-Selected, induct}
+use Rattle.spx_core.proofs.Callers.Expressions.{fold-Element, fold-Entry, fold-Aggregate, fold-Faulty, fold-Number, fold-Parenthesized, fold-Selected, induct}
 use Rattle.spx_term.specs.declared.term.Term.{Term}
 use Rattle.spx_term.specs.declared.term.Term.TheVariants.{Number, Infix}
 use Rattle.spx_term.specs.declared.value.Value.{Value}
@@ -35,7 +39,7 @@ use Rattle.spx_term.specs.Folding.{static_term}
 use Rattle.spx_meaning.specs.Evaluation.{term_op}
 use Rattle.spx_meaning.specs.Literals.{literal, literal_in, static_in}
 use Rattle.spx_meaning.proofs.Callers.Literals.{end_literal, implicit_literal}
-use Rattle.spx_formula.specs.Terms.{element_term, end_term, field_term, first_term, last_term, literal_or, mapped_term, member_term, moved_term, named, signed_term, term_with, term_with-Applied, term_with-ArrayAttribute, term_with-Attribute, term_with-Element, term_with-Entry, term_with-Faulty, term_with-Implicit, term_with-InRange, term_with-InType, term_with-Infix, term_with-Name, term_with-Number, term_with-Parenthesized, term_with-Prefix, term_with-Selected}
+use Rattle.spx_formula.specs.Terms.{element_term, end_term, field_term, first_term, last_term, literal_or, mapped_term, member_term, moved_term, named, signed_term, term_with, term_with-Applied, term_with-Aggregate, term_with-ArrayAttribute, term_with-Attribute, term_with-Element, term_with-Entry, term_with-Faulty, term_with-Implicit, term_with-InRange, term_with-InType, term_with-Infix, term_with-Name, term_with-Number, term_with-Parenthesized, term_with-Prefix, term_with-Selected}
 use Rattle.spx_formula.specs.Functions.{shift_in}
 
 -- ---- static expressions
@@ -105,6 +109,20 @@ element_literal a place i x = ap literal_in (fold-Element expr_step a place i x)
 pub field_literal : (a : CoreExpr) (field : Identifier) (x : Selection) → literal (expr.Selected a field x) ≡ None
 field_literal a field x = ap literal_in (fold-Selected expr_step a field x) ∙ no_field x (judged a)
 
+-- nor is an aggregate
+after_four : (a : Judged Subtype) (b c d : Subtype → Judged ⊤) (of : Subtype → ExprType) (place : Place) → literal_in (a >>= λ s. b s >>= λ x. c s >>= λ y. d s >>= λ z. Ok (typing (of s) None place)) ≡ None
+after_four (Err breach) b c d of place = refl
+after_four (Ok s) b c d of place = by_first (b s)
+  where
+    by_first : (first : Judged ⊤) → literal_in (first >>= λ x. c s >>= λ y. d s >>= λ z. Ok (typing (of s) None place)) ≡ None
+    by_first (Ok done) = after_two (c s) (d s) (of s) place
+    by_first (Err breach) = refl
+
+pub aggregate_literal : (name : CoreName) (c : Composition) (parts : List CoreExpr) → literal (expr.Aggregate name c parts) ≡ None
+aggregate_literal name c parts =
+    ap literal_in (fold-Aggregate expr_step name c parts)
+    ∙ after_four (named_type name) (λ s. keeps N10 name.name.place (is_type_at c.of s.base)) (λ s. keeps N16 name.name.place (has_right_components c (map judged parts))) (λ s. judged_parts c.roles (map judged parts)) (λ s. Of s.base) name.name.place
+
 -- a name that denotes nothing is not static
 pub faulty_literal : (faulty : FaultyName) → literal (expr.Faulty faulty) ≡ None
 faulty_literal faulty = ap literal_in (fold-Faulty expr_step faulty)
@@ -126,6 +144,7 @@ static_is present entries = induct (λ e. (s : Value) → literal e ≡ Some s �
   element = λ a place i x first second s is. of_none s _ (element_literal a place i x) is;
   selected = λ a field x more s is. of_none s _ (field_literal a field x) is;
   array_attribute = λ a designator x more s is. term_with-ArrayAttribute present entries a designator x ∙ sym (static_number (attribute_of x.index designator.text)) ∙ ap static_term (sym (end_literal a designator x s is));
+  aggregate = λ name c parts all s is. of_none s _ (aggregate_literal name c parts) is;
   faulty = λ faulty s is. of_none s _ (faulty_literal faulty) is;
 })
 
@@ -159,6 +178,9 @@ module _ (present entries : VarId → Term) (e : CoreExpr) where
 
   pub end_is : (a : CoreExpr) (designator : Identifier) (x : ArrayEnds) → e ≡ expr.ArrayAttribute a designator x → meant e ≡ end_term x designator
   end_is a designator x is = ap meant is ∙ term_with-ArrayAttribute present entries a designator x
+
+  pub aggregate_term : (name : CoreName) (c : Composition) (parts : List CoreExpr) → e ≡ expr.Aggregate name c parts → meant e ≡ composed_term c (placed c.roles (map meant parts))
+  aggregate_term name c parts is = ap meant is ∙ term_with-Aggregate present entries name c parts
 
   pub faulty_term : (faulty : FaultyName) → e ≡ expr.Faulty faulty → meant e ≡ Number (pos 0)
   faulty_term faulty is = ap meant is ∙ term_with-Faulty present entries faulty

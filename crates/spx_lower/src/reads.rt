@@ -54,8 +54,20 @@ fn add_reads(value: &CoreExpr, found: &mut Items<Read>) -> Result<(), AllocError
         }
         CoreExpr::Selected(prefix, _, _) => add_reads(prefix.get(), found),
         CoreExpr::ArrayAttribute(_, _, _) => Ok(()),
+        CoreExpr::Aggregate(_, _, parts) => add_parts(parts.as_slice(), found),
         CoreExpr::Faulty(_) => Ok(()),
     }
+}
+
+/// Adds what these expressions read, in the order of the text.
+#[cycle(add_reads)]
+fn add_parts(parts: &[CoreExpr], found: &mut Items<Read>) -> Result<(), AllocError>
+    ensures { OnOk result (found.new ≡ found.old ++ flat_map reads_of parts.now) }
+{
+    for part in parts {
+        add_reads(part, found)?;
+    }
+    Ok(())
 }
 
 /// What the expression reads.

@@ -102,7 +102,7 @@ places_same a b is =
     λ i. record { file = eqb-true a.file b.file p.0 i; line = eqb-true a.line b.line q.0 i; column = eqb-true a.column b.column q.1 i }
 
 abbrev rules : List RuleName
-rules = rule.L1 ∷ rule.L2 ∷ rule.L3 ∷ rule.P1 ∷ rule.N1 ∷ rule.N2 ∷ rule.N3 ∷ rule.N5 ∷ rule.N10 ∷ rule.N11 ∷ rule.N12 ∷ rule.N13 ∷ rule.N14 ∷ rule.N17 ∷ rule.N18 ∷ rule.U2 ∷ rule.U4 ∷ rule.U7 ∷ rule.U8 ∷ rule.U11 ∷ rule.F1 ∷ rule.F2 ∷ rule.F3 ∷ rule.F4 ∷ rule.V1 ∷ []
+rules = rule.L1 ∷ rule.L2 ∷ rule.L3 ∷ rule.P1 ∷ rule.N1 ∷ rule.N2 ∷ rule.N3 ∷ rule.N5 ∷ rule.N10 ∷ rule.N11 ∷ rule.N12 ∷ rule.N13 ∷ rule.N14 ∷ rule.N16 ∷ rule.N17 ∷ rule.N18 ∷ rule.U2 ∷ rule.U4 ∷ rule.U7 ∷ rule.U8 ∷ rule.U11 ∷ rule.F1 ∷ rule.F2 ∷ rule.F3 ∷ rule.F4 ∷ rule.V1 ∷ []
 
 -- the rule with a code
 abbrev rule_of : List ℕ → Option RuleName
@@ -122,6 +122,7 @@ rule_found rule.N11 = refl
 rule_found rule.N12 = refl
 rule_found rule.N13 = refl
 rule_found rule.N14 = refl
+rule_found rule.N16 = refl
 rule_found rule.N17 = refl
 rule_found rule.N18 = refl
 rule_found rule.U2 = refl

@@ -21,6 +21,7 @@ fn breach_text(rule: RuleName) -> &'static [u8]
         RuleName::N12 => b"static value out of range",
         RuleName::N13 => b"bad range",
         RuleName::N14 => b"wrong arguments",
+        RuleName::N16 => b"component not given once",
         RuleName::N17 => b"choice not given once",
         RuleName::N18 => b"entry value not allowed",
         RuleName::U2 => b"target cannot be assigned",

@@ -68,6 +68,7 @@ pub(crate) fn code(rule: RuleName) -> &'static [u8]
         RuleName::N12 => b"N12",
         RuleName::N13 => b"N13",
         RuleName::N14 => b"N14",
+        RuleName::N16 => b"N16",
         RuleName::N17 => b"N17",
         RuleName::N18 => b"N18",
         RuleName::U2 => b"U2",

@@ -1,3 +1,4 @@
+mod AggregateReads
 mod CaseRules
 mod Elements
 mod ExitRules

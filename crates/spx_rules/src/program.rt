@@ -3,7 +3,6 @@
 ghost use Rattle.std.specs.Prelude.{◌≡◌, ◌↔◌, IsNone, IfOk};
 ghost use Rattle.spx_core.specs.Judged.{breach_in, each, if_there};
 ghost use Rattle.spx_core.specs.Obeyed as rules;
-ghost use Rattle.spx_core.specs.Reads.{names_read};
 ghost use Rattle.spx_core.specs.Uses.{variable_of};
 ghost use Rattle.spx_rules.specs.Allowed as named;
 
@@ -29,9 +28,9 @@ fn may_be_read(tables: &Tables, allowed: Allowed, name: &CoreName) -> bool
 
 /// Every variable that the expression reads has to be one that is allowed.
 #[cycle(read_allowed)]
-#[tactic(auto, using(spx_core::proofs::Callers::ReadsLaws::each_forms))]
+#[tactic(auto, using(spx_core::proofs::Callers::ReadsLaws::each_forms, crate::proofs::AggregateReads::aggregates))]
 fn read_allowed(tables: &Tables, allowed: Allowed, expr: &CoreExpr) -> Result<(), Breach>
-    ensures { result ≡ each (named.reads_allowed allowed tables.now) (names_read expr.now) }
+    ensures { result ≡ named.obeyed_reads allowed tables.now expr.now }
 {
     match expr {
         CoreExpr::Number(_, _) => Ok(()),
@@ -60,8 +59,20 @@ fn read_allowed(tables: &Tables, allowed: Allowed, expr: &CoreExpr) -> Result<()
         }
         CoreExpr::Selected(prefix, _, _) => read_allowed(tables, allowed, prefix.get()),
         CoreExpr::ArrayAttribute(_, _, _) => Ok(()),
+        CoreExpr::Aggregate(_, _, parts) => parts_read_allowed(tables, allowed, parts.as_slice()),
         CoreExpr::Faulty(_) => Ok(()),
     }
+}
+
+/// The same for each of these expressions.
+#[cycle(read_allowed)]
+fn parts_read_allowed(tables: &Tables, allowed: Allowed, parts: &[CoreExpr]) -> Result<(), Breach>
+    ensures { result ≡ each (named.obeyed_reads allowed tables.now) parts.now }
+{
+    for part in parts {
+        read_allowed(tables, allowed, part)?;
+    }
+    Ok(())
 }
 
 /// The first name in a precondition or a postcondition of a variable that is not allowed.
