@@ -7,6 +7,7 @@
 //! none, and each gives exactly what its definition says.
 #![tactic(auto)]
 
+mod aggregates;
 mod choices;
 mod cut;
 mod entered;
@@ -16,6 +17,7 @@ mod parts;
 mod terms;
 mod way;
 
+pub use aggregates::composed_id;
 pub use choices::facts_of_all;
 pub use cut::own_cut;
 pub use entered::{Entered, Interface, is_fixed};

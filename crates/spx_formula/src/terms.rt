@@ -1,5 +1,6 @@
 // Terms of expressions over names, by ids.
-ghost use Rattle.std.specs.Prelude.{◌≡◌, ◌<◌, length, IfOk};
+ghost use Rattle.std.specs.Prelude.{◌≡◌, ◌<◌, length, map, IfOk};
+ghost use Rattle.spx_formula.specs.Added.{AddsAll};
 ghost use Rattle.spx_core.specs.Uses.{variable_of};
 ghost use Rattle.spx_core.specs.Judged.{application};
 ghost use Rattle.spx_term.specs.declared.term.Term.TheVariants as term;
@@ -9,6 +10,7 @@ ghost use Rattle.spx_arena.specs.Sharing.{tree_at, Adds};
 ghost use Rattle.spx_formula.specs.Functions.{shift_in};
 ghost use Rattle.spx_formula.specs.EntryNames.{meant, present_term};
 
+use crate::aggregates::composed_id;
 use crate::entered::{Entered, present_name};
 use crate::parts::{element_id, end_id, field_id};
 use spx_arena::{Node, TermId, Terms};
@@ -18,7 +20,8 @@ use spx_static::{literal, subtype_of};
 use spx_term::{TermOp, TermPrefix};
 use spx_tree::{MemberOp, PrefixOp};
 use spx_types::application;
-use std::alloc::AllocError;
+use sqlite_items::Items;
+use std::alloc::{AllocError, Global};
 
 /// The id of what a name denotes.
 pub fn name_id(
@@ -128,6 +131,7 @@ pub fn member_id(
 /// The id of the term of an expression, where its names stand so. A static one stands as its value.
 #[cycle(term_id)]
 pub fn term_id(
+    alloc: Global,
     program: &Program,
     entered: &Entered,
     terms: &mut Terms,
@@ -144,43 +148,65 @@ pub fn term_id(
         CoreExpr::Entry(name, _) => name_id(program, &entered.at_tilde(), terms, name.entity),
         CoreExpr::Attribute(_, _) => terms.make(Node::Number(0)),
         CoreExpr::Applied(function, _, operand) => {
-            let operand = term_id(program, entered, terms, operand.get())?;
+            let operand = term_id(alloc, program, entered, terms, operand.get())?;
             moved_id(terms, shift_of(function), operand)
         }
-        CoreExpr::Parenthesized(_, inner) => term_id(program, entered, terms, inner.get()),
-        CoreExpr::Implicit(_, _, operand) => term_id(program, entered, terms, operand.get()),
+        CoreExpr::Parenthesized(_, inner) => term_id(alloc, program, entered, terms, inner.get()),
+        CoreExpr::Implicit(_, _, operand) => term_id(alloc, program, entered, terms, operand.get()),
         CoreExpr::Prefix(op, _, operand) => {
-            let operand = term_id(program, entered, terms, operand.get())?;
+            let operand = term_id(alloc, program, entered, terms, operand.get())?;
             signed_id(terms, *op, operand)
         }
         CoreExpr::Infix(op, _, left, right) => {
-            let left = term_id(program, entered, terms, left.get())?;
-            let right = term_id(program, entered, terms, right.get())?;
+            let left = term_id(alloc, program, entered, terms, left.get())?;
+            let right = term_id(alloc, program, entered, terms, right.get())?;
             terms.infix(term_op(*op), left, right)
         }
         CoreExpr::InType(op, _, tested, name) => {
             let subtype = subtype_of(name.root.entity);
-            let tested = term_id(program, entered, terms, tested.get())?;
+            let tested = term_id(alloc, program, entered, terms, tested.get())?;
             let low = terms.make(Node::Number(subtype.first))?;
             let high = terms.make(Node::Number(subtype.last))?;
             member_id(terms, *op, tested, low, high)
         }
         CoreExpr::InRange(op, _, tested, low, high) => {
-            let tested = term_id(program, entered, terms, tested.get())?;
-            let low = term_id(program, entered, terms, low.get())?;
-            let high = term_id(program, entered, terms, high.get())?;
+            let tested = term_id(alloc, program, entered, terms, tested.get())?;
+            let low = term_id(alloc, program, entered, terms, low.get())?;
+            let high = term_id(alloc, program, entered, terms, high.get())?;
             member_id(terms, *op, tested, low, high)
         }
         CoreExpr::Element(prefix, _, index, x) => {
-            let prefix = term_id(program, entered, terms, prefix.get())?;
-            let index = term_id(program, entered, terms, index.get())?;
+            let prefix = term_id(alloc, program, entered, terms, prefix.get())?;
+            let index = term_id(alloc, program, entered, terms, index.get())?;
             element_id(terms, x.get(), prefix, index)
         }
         CoreExpr::Selected(prefix, _, x) => {
-            let prefix = term_id(program, entered, terms, prefix.get())?;
+            let prefix = term_id(alloc, program, entered, terms, prefix.get())?;
             field_id(terms, x.get(), prefix)
         }
         CoreExpr::ArrayAttribute(_, designator, x) => end_id(terms, x.get(), designator),
+        CoreExpr::Aggregate(_, composition, parts) => {
+            let parts = term_ids(alloc, program, entered, terms, parts.as_slice())?;
+            composed_id(alloc, terms, composition.get(), parts.as_slice())
+        }
         CoreExpr::Faulty(_) => terms.make(Node::Number(0)),
     }
+}
+
+/// The ids of the terms of the parts of an aggregate.
+#[cycle(term_id)]
+fn term_ids(
+    alloc: Global,
+    program: &Program,
+    entered: &Entered,
+    terms: &mut Terms,
+    parts: &[CoreExpr],
+) -> Result<Items<TermId>, AllocError>
+    ensures { IfOk result (λ ids. AddsAll terms.old terms.new ids (map (meant program.now entered.now) parts.now)) }
+{
+    let mut ids = Items::new(alloc);
+    for part in parts {
+        ids.push(term_id(alloc, program, entered, terms, part)?)?;
+    }
+    Ok(ids)
 }

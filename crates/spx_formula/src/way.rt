@@ -12,7 +12,7 @@ use crate::parts::{element_id, field_id, with_element_id, with_field_id};
 use crate::terms::{name_id, term_id};
 use spx_arena::{TermId, Terms};
 use spx_core::{PartStep, Program, Subtype, Target, UNIVERSAL};
-use std::alloc::AllocError;
+use std::alloc::{AllocError, Global};
 
 /// The type of the part at the end of a way of one or more steps.
 pub fn part_type(way: &[PartStep]) -> Subtype
@@ -30,6 +30,7 @@ pub fn part_type(way: &[PartStep]) -> Subtype
 
 /// The id of the part to which a step leads.
 fn part_id(
+    alloc: Global,
     program: &Program,
     terms: &mut Terms,
     step: &PartStep,
@@ -40,7 +41,7 @@ fn part_id(
 {
     match step {
         PartStep::Index(_, index, x) => {
-            let index = term_id(program, &Entered::Present, terms, index.get())?;
+            let index = term_id(alloc, program, &Entered::Present, terms, index.get())?;
             element_id(terms, x.get(), whole, index)
         }
         PartStep::Field(_, x) => field_id(terms, x.get(), whole),
@@ -49,6 +50,7 @@ fn part_id(
 
 /// The id of the whole with another part where a step leads.
 fn with_part_id(
+    alloc: Global,
     program: &Program,
     terms: &mut Terms,
     step: &PartStep,
@@ -60,7 +62,7 @@ fn with_part_id(
 {
     match step {
         PartStep::Index(_, index, x) => {
-            let index = term_id(program, &Entered::Present, terms, index.get())?;
+            let index = term_id(alloc, program, &Entered::Present, terms, index.get())?;
             with_element_id(terms, x.get(), whole, index, part)
         }
         PartStep::Field(_, x) => with_field_id(terms, x.get(), whole, part),
@@ -70,6 +72,7 @@ fn with_part_id(
 /// The id of the whole with another part at the end of a way.
 #[cycle(with_end_id)]
 fn with_end_id(
+    alloc: Global,
     program: &Program,
     terms: &mut Terms,
     way: &[PartStep],
@@ -82,9 +85,9 @@ fn with_end_id(
     match way {
         [] => Ok(part),
         [step, more @ ..] => {
-            let inner = part_id(program, terms, step, whole)?;
-            let end = with_end_id(program, terms, more, inner, part)?;
-            let id = with_part_id(program, terms, step, whole, end)?;
+            let inner = part_id(alloc, program, terms, step, whole)?;
+            let end = with_end_id(alloc, program, terms, more, inner, part)?;
+            let id = with_part_id(alloc, program, terms, step, whole, end)?;
             Ok(id)
         }
     }
@@ -92,6 +95,7 @@ fn with_end_id(
 
 /// The id of the value of the variable of a target with another part at the end of its way.
 pub fn with_target_id(
+    alloc: Global,
     program: &Program,
     terms: &mut Terms,
     target: &Target,
@@ -101,6 +105,6 @@ pub fn with_target_id(
     ensures { IfOk result (λ id. Adds terms.old terms.new id (with_end_term (map (step_of program.now (now_term program.now)) target.now.way) (named (now_term program.now) (variable_of target.now.root.entity)) (tree_at terms.old part))) }
 {
     let whole = name_id(program, &Entered::Present, terms, target.root.entity)?;
-    let id = with_end_id(program, terms, target.way.as_slice(), whole, part)?;
+    let id = with_end_id(alloc, program, terms, target.way.as_slice(), whole, part)?;
     Ok(id)
 }
