@@ -19,7 +19,7 @@ use Rattle.spx_core.specs.declared.rule.RuleName.{RuleName}
 use Rattle.spx_core.specs.declared.rule.RuleName.TheVariants.{N1, N10, N11, N12, N16}
 use Rattle.spx_core.specs.declared.rule.ExprType.TheVariants.{Of}
 use Rattle.spx_core.specs.declared.rule.Typing.{Typing}
-use Rattle.spx_core.specs.Aggregates.{has_others_last, is_complete, with_parts}
+use Rattle.spx_core.specs.Aggregates.{has_others_last, is_complete, unknown_fields, with_parts}
 use Rattle.spx_core.specs.HasType.{HasType}
 use Rattle.spx_core.specs.Judged.{Judged, ◌>>=◌, component, has_right_components, judged, judged_choices, judged_parts, keeps, operand_of, static_at, static_index}
 use Rattle.spx_core.specs.NameBreaches as broken
@@ -62,23 +62,23 @@ module _ (name : CoreName) (c : Composition) (whole : List CoreExpr) (b : Breach
 
   -- of the parts that are left, each is one of all, for what it is for there
   pub parts_found : (roles : List Role) (parts : List CoreExpr) → AllByRecursion Found parts → ((e : CoreExpr) → Contains parts e → Contains whole e)
-      → ((x : Role × CoreExpr) → Contains (with_parts roles parts) x → Contains (with_parts c.roles whole) x) → ((r : Role) → Contains roles r → Contains c.roles r) → judged_parts roles (map judged parts) ≡ Err b → Breaks b.rule b.place
-  parts_found [] [] all inside paired given h = absurd cc
-  parts_found [] (e ∷ parts) all inside paired given h =
+      → ((x : Role × CoreExpr) → Contains (with_parts roles parts) x → Contains (with_parts c.roles whole) x) → ((x : Place × Expr) → Contains (unknown_fields roles parts) x → Contains (unknown_fields c.roles whole) x) → judged_parts roles (map judged parts) ≡ Err b → Breaks b.rule b.place
+  parts_found [] [] all inside paired unknown h = absurd cc
+  parts_found [] (e ∷ parts) all inside paired unknown h =
       by_part (judged e) _ b h (λ x. broken.composed_part name c whole e b.rule b.place (inside e (in_first e parts)) (all.0 b x)) (λ _ _ h.
-      parts_found [] parts all.1 (λ f at. inside f (in_rest e f parts at)) paired given h)
-  parts_found (role.Index base ∷ roles) (e ∷ parts) all inside paired given h =
+      parts_found [] parts all.1 (λ f at. inside f (in_rest e f parts at)) paired unknown h)
+  parts_found (role.Index base ∷ roles) (e ∷ parts) all inside paired unknown h =
       by_part (judged e >>= λ k. static_index base k) _ b h
       (part_found e (inside e (in_first e parts)) all.0 (static_index base) (λ k d. choice_found base e k (paired (role.Index base, e) (in_first (role.Index base, e) (with_parts roles parts))) d)) (λ _ _ h.
-      parts_found roles parts all.1 (λ f at. inside f (in_rest e f parts at)) (λ x at. paired x (in_rest (role.Index base, e) x (with_parts roles parts) at)) (λ r at. given r (in_rest (role.Index base) r roles at)) h)
-  parts_found (role.Value g of one ∷ roles) (e ∷ parts) all inside paired given h =
+      parts_found roles parts all.1 (λ f at. inside f (in_rest e f parts at)) (λ x at. paired x (in_rest (role.Index base, e) x (with_parts roles parts) at)) unknown h)
+  parts_found (role.Value g of one ∷ roles) (e ∷ parts) all inside paired unknown h =
       by_part (judged e >>= λ v. component of one v) _ b h
       (part_found e (inside e (in_first e parts)) all.0 (component of one) (λ v d. value_found g of one e v (paired (role.Value g of one, e) (in_first (role.Value g of one, e) (with_parts roles parts))) d)) (λ _ _ h.
-      parts_found roles parts all.1 (λ f at. inside f (in_rest e f parts at)) (λ x at. paired x (in_rest (role.Value g of one, e) x (with_parts roles parts) at)) (λ r at. given r (in_rest (role.Value g of one) r roles at)) h)
-  parts_found (role.Field field ∷ roles) parts all inside paired given h = parts_found roles parts all inside paired (λ r at. given r (in_rest (role.Field field) r roles at)) h
-  parts_found (role.NoField place e ∷ roles) parts all inside paired given h = told Breaks N1 place b h (broken.no_such_field name c whole place e (given (role.NoField place e) (in_first (role.NoField place e) roles)))
-  parts_found (role.Index base ∷ roles) [] all inside paired given h = absurd cc
-  parts_found (role.Value g of one ∷ roles) [] all inside paired given h = absurd cc
+      parts_found roles parts all.1 (λ f at. inside f (in_rest e f parts at)) (λ x at. paired x (in_rest (role.Value g of one, e) x (with_parts roles parts) at)) unknown h)
+  parts_found (role.Field field ∷ roles) parts all inside paired unknown h = parts_found roles parts all inside paired unknown h
+  parts_found (role.NoField place e ∷ roles) parts all inside paired unknown h = told Breaks N1 place b h (broken.no_such_field name c whole place e (unknown (place, e) (in_first (place, e) (unknown_fields roles parts))))
+  parts_found (role.Index base ∷ roles) [] all inside paired unknown h = absurd cc
+  parts_found (role.Value g of one ∷ roles) [] all inside paired unknown h = absurd cc
 
   -- `others` stands before others, or a component is not given once
   pub components_found : has_right_components c (map judged whole) ≡ false → Breaks N16 name.name.place
@@ -135,6 +135,15 @@ asked_of_each (role.NoField place e ∷ roles) parts h x at = absurd cc
 asked_of_each (role.Index base ∷ roles) [] h x at = absurd (in_none x at)
 asked_of_each (role.Value g of one ∷ roles) [] h x at = absurd (in_none x at)
 
+no_unknown_field : (roles : List Role) (parts : List CoreExpr) → judged_parts roles (map judged parts) ≡ Ok tt → (x : Place × Expr) → Contains (unknown_fields roles parts) x → ⊥
+no_unknown_field [] parts h x at = in_none x at
+no_unknown_field (role.Index base ∷ roles) (e ∷ parts) h x at = no_unknown_field roles parts (bound (judged e >>= λ k. static_index base k) (λ _. judged_parts roles (map judged parts)) tt h).2 x at
+no_unknown_field (role.Value g of one ∷ roles) (e ∷ parts) h x at = no_unknown_field roles parts (bound (judged e >>= λ v. component of one v) (λ _. judged_parts roles (map judged parts)) tt h).2 x at
+no_unknown_field (role.Field field ∷ roles) parts h x at = no_unknown_field roles parts h x at
+no_unknown_field (role.NoField place e ∷ roles) parts h x at = absurd cc
+no_unknown_field (role.Index base ∷ roles) [] h x at = in_none x at
+no_unknown_field (role.Value g of one ∷ roles) [] h x at = in_none x at
+
 -- what a bound of a choice passes
 pub record PassesChoice (base : BaseType) (k : Typing) : Type 0 where
   pub of_type : is_of base k.of ≡ true
@@ -172,3 +181,6 @@ module _ (roles : List Role) (parts : List CoreExpr) (ok : judged_parts roles (m
 
   pub part_passes : (e : CoreExpr) → Contains parts e → (t : Typing) × (judged e ≡ Ok t)
   part_passes e at = let all = parts_ok roles (map judged parts) tt ok in one_judged parts all.0 all.1 e at
+
+  pub fields_pass : (at : Place) (e : Expr) → Contains (unknown_fields roles parts) (at, e) → ⊥
+  fields_pass at e is = no_unknown_field roles parts ok (at, e) is

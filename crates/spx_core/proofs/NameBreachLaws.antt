@@ -47,7 +47,7 @@ use Rattle.spx_core.specs.NameBreaches as broken
 use Rattle.spx_core.specs.NameBreaches.{BreaksCondition, BreaksExpr, BreaksFaulty, BreaksName, BreaksReference, IsObject, IsTarget, IsType, IsValue, assigned_type}
 use Rattle.spx_core.specs.Statements.{test}
 use Rattle.spx_core.specs.Types.{both_held, has_literals, has_numbers, has_parts, is_boolean, is_held, is_numeric, is_of, is_taken, is_typed_at, left_type, lies_in, lies_in_operand, lies_within, met, operand_fits, operands_fit, result_of, result_type, right_type, shifted_value, signed_result, three_fit, is_type_at}
-use Rattle.spx_core.proofs.AggregateBreachLaws.{Found, PassesChoice, PassesValue, choice_passes, components_found, components_pass, part_passes, parts_found, value_passes}
+use Rattle.spx_core.proofs.AggregateBreachLaws.{Found, PassesChoice, PassesValue, choice_passes, components_found, components_pass, fields_pass, part_passes, parts_found, value_passes}
 use Rattle.spx_core.proofs.Elements.{in_first, in_none}
 use Rattle.spx_core.proofs.Judgements.{bound, by_part, by_test, joined, kept, ok_is, told}
 use Rattle.spx_core.proofs.TypedLaws.{complete, sound}
@@ -377,7 +377,7 @@ aggregate_found name c parts all b h =
     (λ e. by_test Breaks N10 name.name.place (is_type_at c.of subtype.base) b e (broken.composed_of_another_type name c parts subtype (type_is name.name.place name.entity subtype is))) (λ _ _ h.
     by_part (keeps N16 name.name.place (has_right_components c (map judged parts))) _ b h
     (λ e. by_test Breaks N16 name.name.place (has_right_components c (map judged parts)) b e (components_found name c parts b)) (λ _ _ h.
-    by_part (judged_parts c.roles (map judged parts)) _ b h (parts_found name c parts b c.roles parts all (λ e at. at) (λ x at. at) (λ r at. at)) (λ _ _ h. absurd cc))))
+    by_part (judged_parts c.roles (map judged parts)) _ b h (parts_found name c parts b c.roles parts all (λ e at. at) (λ x at. at) (λ x at. at)) (λ _ _ h. absurd cc))))
 
 -- a name that denotes nothing breaks the rule that is reported of it
 pub faulty_breaks : (root : Option Entity) (fault : NameFault) (name : Name) → let faulty : FaultyName = record { root = root; fault = fault; name = name } in At (BreaksFaulty faulty) (breach_of faulty)
@@ -766,7 +766,7 @@ no_expr _ _ _ (broken.choice_not_static n c parts base e k at d none) t ok =
     let no : None ≡ Some static.0 = sym none ∙ static.1 in
     absurd cc
 no_expr _ _ _ (broken.choice_out_of_type n c parts base e k at d fails) t ok = both_ways _ fails (choice_in n c parts t ok base e k at d).lies
-no_expr _ _ _ (broken.no_such_field n c parts place e at) t ok = ?
+no_expr _ _ _ (broken.no_such_field n c parts place e at) t ok = fields_pass c.roles parts (aggregate_passes n c parts t ok).parts_judged place e at
 no_expr _ _ _ (broken.of_different_types n c parts g of e v at d) t ok = both_ways false refl (value_in n c parts t ok g of false e v at d).of_one
 no_expr _ _ _ (broken.value_of_another_type n c parts g of one e v at d fails) t ok = both_ways _ fails (value_in n c parts t ok g of one e v at d).of_type
 no_expr _ _ _ (broken.value_out_of_type n c parts g of one e v at d fails) t ok = both_ways _ fails (value_in n c parts t ok g of one e v at d).lies
