@@ -1,5 +1,5 @@
 -- What is reported of the parts of an aggregate is broken there, and where nothing is reported no rule on them is broken (Ada 95 RM 4.3).
-use Rattle.std.proofs.Common.{◌≡◌, ℤ, Bool, true, false, not, ◌&&◌, ◌||◌, List, [], ◌∷◌, map, Option, Some, None, Ok, Err, is_ok, refl, sym, ap, subst, ◌∙◌, ⊎_elim}
+use Rattle.std.proofs.Common.{◌≡◌, ℤ, Bool, true, false, not, ◌||◌, List, [], ◌∷◌, map, Option, Some, None, Ok, Err, is_ok, refl, sym, ap, subst, ◌∙◌, ⊎_elim}
 use Rattle.std.specs.Prelude.{⊤, Contains}
 use Rattle.std.specs.List.{AllByRecursion}
 use Rattle.std.proofs.lemmas.Bool.{and_cases, and_parts, both_ways, or_cases, or_parts}
@@ -21,7 +21,7 @@ use Rattle.spx_core.specs.declared.rule.ExprType.TheVariants.{Of}
 use Rattle.spx_core.specs.declared.rule.Typing.{Typing}
 use Rattle.spx_core.specs.Aggregates.{has_others_last, is_complete, unknown_fields, with_parts}
 use Rattle.spx_core.specs.HasType.{HasType}
-use Rattle.spx_core.specs.Judged.{Judged, ◌>>=◌, component, has_right_components, judged, judged_choices, judged_parts, keeps, operand_of, static_at, static_index}
+use Rattle.spx_core.specs.Judged.{Judged, ◌>>=◌, component, has_right_components, judged, judged_choices, judged_parts, keeps, static_at, static_index}
 use Rattle.spx_core.specs.NameBreaches as broken
 use Rattle.spx_core.specs.NameBreaches.{BreaksExpr}
 use Rattle.spx_core.specs.Types.{is_of, lies_in}
