@@ -152,9 +152,10 @@ are_of_one [] = true
 are_of_one (of ∷ rest) = list_all (λ (other : Subtype). is_of of.base (Of other.base)) rest
 
 abbrev pub field_value : List Field → List ℕ → CoreExpr → Role × Option CoreExpr
-field_value fields positions value =
-    (role.Value (given.Fields positions) (common_type (types_at fields positions)) (are_of_one (types_at fields positions)),
-      Some (in_context (Of (common_type (types_at fields positions)).base) value))
+field_value fields positions value = (
+  role.Value (given.Fields positions) (common_type (types_at fields positions)) (are_of_one (types_at fields positions)),
+  Some (in_context (Of (common_type (types_at fields positions)).base) value),
+)
 
 abbrev pub in_record : List Field → List ℕ → Association → Known
 in_record fields chosen a = flat_map (field_bounds fields) (listed_choices a.choices) ++ field_value fields (positions_of fields chosen a.choices) a.value ∷ []
