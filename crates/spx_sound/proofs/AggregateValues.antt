@@ -1,5 +1,6 @@
 -- The term of an aggregate has the value that the values of its terms make.
-use Rattle.std.proofs.Common.{◌≡◌, ℕ, Bool, true, false, if◌then◌else◌, List, [], ◌∷◌, ◌++◌, map, Option, Some, None, refl, sym, ap, ap₂, ◌∙◌}
+use Rattle.std.proofs.Common.{◌≡◌, ℕ, Bool, true, false, if◌then◌else◌, List, [], ◌∷◌, ◌++◌, map, Option, Some, None, refl, sym, ap, ap₂, subst, ◌∙◌}
+use Rattle.std.specs.List.{AllByRecursion}
 use Rattle.std.specs.Prelude.{option_map, int_lt}
 use Rattle.std.proofs.lemmas.List.{map-append}
 use Rattle.spx_core.specs.declared.aggregate.Composition.{Composition}
@@ -75,6 +76,66 @@ module _ {A B : Type 0} (f : A → B) where
   order_each : (xs : List (Slot × A)) → in_order (each_slot xs) ≡ each_slot (in_order xs)
   order_each [] = refl
   order_each (x ∷ xs) = ap (inserted (x.0, f x.1)) (order_each xs) ∙ inserted_each x (in_order xs)
+
+-- ---- what holds of each
+
+module _ {A : Type 0} (P : A → Type 0) where
+  -- of what is placed, and of slots
+  abbrev pub AllPlaced : List (Placed A) → Type 0
+  AllPlaced xs = AllByRecursion (λ (x : Placed A). P x.1) xs
+
+  abbrev pub AllSlots : List (Slot × A) → Type 0
+  AllSlots xs = AllByRecursion (λ (x : Slot × A). P x.1) xs
+
+  pub placed_hold : (roles : List Role) (xs : List A) → AllByRecursion P xs → AllPlaced (placed roles xs)
+  placed_hold [] xs all = tt
+  placed_hold (role.Index base ∷ roles) [] all = tt
+  placed_hold (role.Value g of one ∷ roles) [] all = tt
+  placed_hold (role.Index base ∷ roles) (x ∷ xs) all = placed_hold roles xs all.1
+  placed_hold (role.Value g of one ∷ roles) (x ∷ xs) all = (all.0, placed_hold roles xs all.1)
+  placed_hold (role.Field field ∷ roles) xs all = placed_hold roles xs all
+  placed_hold (role.NoField place e ∷ roles) xs all = placed_hold roles xs all
+
+  both_hold : (xs ys : List (Slot × A)) → AllSlots xs → AllSlots ys → AllSlots (xs ++ ys)
+  both_hold [] ys p q = q
+  both_hold (x ∷ xs) ys p q = (p.0, both_hold xs ys p.1 q)
+
+  spans_hold : (x : A) (spans : List Span) → P x → AllSlots (slots_of (given.Elements spans, x))
+  spans_hold x [] p = tt
+  spans_hold x (span ∷ spans) p = (p, spans_hold x spans p)
+
+  fields_hold : (x : A) (positions : List ℕ) → P x → AllSlots (slots_of (given.Fields positions, x))
+  fields_hold x [] p = tt
+  fields_hold x (k ∷ positions) p = (p, fields_hold x positions p)
+
+  slot_hold : (x : Placed A) → P x.1 → AllSlots (slots_of x)
+  slot_hold (given.Elements spans, x) p = spans_hold x spans p
+  slot_hold (given.Fields positions, x) p = fields_hold x positions p
+  slot_hold (given.Others, x) p = tt
+
+  pub slots_hold : (xs : List (Placed A)) → AllPlaced xs → AllSlots (slots xs)
+  slots_hold [] all = tt
+  slots_hold (x ∷ xs) all = both_hold (slots_of x) (slots xs) (slot_hold x all.0) (slots_hold xs all.1)
+
+  pub others_hold : (xs : List (Placed A)) → AllPlaced xs → (x : A) → others_in xs ≡ Some x → P x
+  others_hold [] all x is = absurd (cc)
+  others_hold ((given.Others, y) ∷ xs) all x is = subst P (let one : y ≡ x = cc in one) all.0
+  others_hold ((given.Elements spans, y) ∷ xs) all x is = others_hold xs all.1 x is
+  others_hold ((given.Fields positions, y) ∷ xs) all x is = others_hold xs all.1 x is
+
+-- so of slots in their order
+module _ {A : Type 0} (Q : Slot × A → Type 0) where
+  inserted_hold : (x : Slot × A) (xs : List (Slot × A)) → Q x → AllByRecursion Q xs → AllByRecursion Q (inserted x xs)
+  inserted_hold x [] p all = (p, tt)
+  inserted_hold x (y ∷ ys) p all = by_test (int_lt (first_of_slot y.0) (first_of_slot x.0)) (inserted_hold x ys p all.1)
+    where
+      by_test : (b : Bool) → AllByRecursion Q (inserted x ys) → AllByRecursion Q (if b then y ∷ inserted x ys else (x ∷ y ∷ ys))
+      by_test true later = (all.0, later)
+      by_test false later = (p, all)
+
+  pub order_hold : (xs : List (Slot × A)) → AllByRecursion Q xs → AllByRecursion Q (in_order xs)
+  order_hold [] all = tt
+  order_hold (x ∷ xs) all = inserted_hold x (in_order xs) all.0 (order_hold xs all.1)
 
 -- ---- values of terms
 
