@@ -1,6 +1,6 @@
 -- What holds of the expressions of an aggregate holds of the parts of its node.
-use Rattle.std.specs.Prelude.{⊤, is_some, ℕ, ℤ, ◌==◌, pos, ◌+◌, ◌+ℤ◌, option_map, length, filter_map}
-use Rattle.std.proofs.Common.{◌≡◌, Bool, true, false, if◌then◌else◌, List, [], ◌∷◌, ◌++◌, map, Option, Some, None, subst, sym, refl}
+use Rattle.std.specs.Prelude.{is_some, ℕ, ℤ, ◌==◌, pos, ◌+◌, ◌+ℤ◌, length, filter_map}
+use Rattle.std.proofs.Common.{◌≡◌, List, [], ◌∷◌, ◌++◌, map, Option, Some, None, subst, sym, refl}
 use Rattle.std.specs.List.{AllByRecursion, flat_map}
 use Rattle.spx_text.specs.declared.place.Place.{Place}
 use Rattle.spx_tree.specs.declared.expression.Aggregate.{Aggregate}
@@ -9,16 +9,14 @@ use Rattle.spx_tree.specs.declared.expression.ChoiceForm.{ChoiceForm}
 use Rattle.spx_tree.specs.declared.expression.ChoiceForm.TheVariants.{Single, Range}
 use Rattle.spx_tree.specs.declared.expression.ChoiceList.{ChoiceList}
 use Rattle.spx_tree.specs.declared.expression.ChoiceList.TheVariants as choice_list
-use Rattle.spx_core.specs.declared.aggregate.Components.{Components}
 use Rattle.spx_core.specs.declared.aggregate.Components.TheVariants.{Elements, Fields}
 use Rattle.spx_core.specs.declared.aggregate.Composition.{Composition}
-use Rattle.spx_core.specs.declared.aggregate.Given.TheVariants as given
 use Rattle.spx_core.specs.declared.aggregate.Role.{Role}
 use Rattle.spx_core.specs.declared.aggregate.Role.TheVariants as role
 use Rattle.spx_core.specs.declared.entity.BaseType.{BaseType}
 use Rattle.spx_core.specs.declared.entity.Subtype.{Subtype}
 use Rattle.spx_core.specs.declared.entity.TypeId.{TypeId}
-use Rattle.spx_core.specs.declared.expression.CoreExpr.{CoreExpr, CoreExpr-F, out-CoreExpr}
+use Rattle.spx_core.specs.declared.expression.CoreExpr.{CoreExpr, out-CoreExpr}
 use Rattle.spx_core.specs.declared.expression.CoreExpr.TheVariants as expr
 use Rattle.spx_core.specs.declared.name.CoreName.{CoreName}
 use Rattle.spx_core.specs.declared.program.Field.{Field}
@@ -32,7 +30,7 @@ use Rattle.spx_core.specs.declared.aggregate.Choice.{Choice}
 use Rattle.spx_core.specs.ResolvedAggregates.{Known, after_choices, after_value, aggregate_of, aggregate_value, all_in_record, array_parts, associations, before_others, bounds_of, chosen_fields, common_type, field_bounds, field_chosen, field_role, field_value, from_index, from_position, in_array, in_record, index_bounds, element_value, indexes_of, listed_choices, positions_of, record_parts, types_at}
 use Rattle.spx_core.specs.Parts.{HasComponentsOf, IsOfArray, IsOfRecord}
 use Rattle.spx_core.proofs.AggregateRoles.{RolesAre, all_are, array_association, from_index_are, from_position_are, record_association}
-use Rattle.spx_core.proofs.WrittenAggregates.{Mapped, first_of, mapped_from, where_true}
+use Rattle.spx_core.proofs.WrittenAggregates.{first_of, mapped_from, where_true}
 
 module _ (P : CoreExpr → Type 0) (contexts : (type : ExprType) (e : CoreExpr) → P e → P (in_context type e)) where
   -- of all parts of the node

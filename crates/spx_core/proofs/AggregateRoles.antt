@@ -1,17 +1,16 @@
 -- What is written in an aggregate is as its type says.
-use Rattle.std.specs.Prelude.{⊤, ℕ, ℤ, is_some, pos, ◌+◌, ◌+ℤ◌}
-use Rattle.std.proofs.Common.{◌≡◌, Bool, true, false, List, [], ◌∷◌, ◌++◌, map, Option, Some, None, refl}
+use Rattle.std.specs.Prelude.{ℕ, ℤ, is_some, pos, ◌+◌, ◌+ℤ◌}
+use Rattle.std.proofs.Common.{Bool, true, false, List, [], ◌∷◌, ◌++◌, map, Option, Some, None, refl}
 use Rattle.std.specs.List.{AllByRecursion, flat_map}
 use Rattle.spx_core.specs.declared.aggregate.Association.{Association}
 use Rattle.spx_core.specs.declared.aggregate.Choice.{Choice}
-use Rattle.spx_core.specs.declared.aggregate.Given.TheVariants as given
 use Rattle.spx_core.specs.declared.aggregate.Role.{Role}
 use Rattle.spx_core.specs.declared.aggregate.Role.TheVariants as role
 use Rattle.spx_core.specs.declared.entity.Subtype.{Subtype}
 use Rattle.spx_core.specs.declared.expression.CoreExpr.{CoreExpr, CoreExpr-F, out-CoreExpr}
 use Rattle.spx_core.specs.declared.program.Field.{Field}
 use Rattle.spx_core.specs.Parts.{IsOfArray, IsOfRecord}
-use Rattle.spx_core.specs.ResolvedAggregates.{Known, bounds_of, chosen_fields, element_value, field_bounds, field_chosen, field_role, from_index, from_position, in_array, in_record, index_bounds, indexes_of, listed_choices}
+use Rattle.spx_core.specs.ResolvedAggregates.{Known, bounds_of, element_value, field_bounds, field_chosen, field_role, from_index, from_position, in_array, in_record, index_bounds, indexes_of, listed_choices}
 
 -- something holds of all that is written
 abbrev pub RolesAre : (Role → Type 0) → Known → Type 0

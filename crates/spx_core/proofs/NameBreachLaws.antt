@@ -1,7 +1,8 @@
 -- What is reported of a rule on names or types in expressions is broken at that place, and where nothing is reported no rule is broken.
 -- Of each kind of part, a lemma `.._found` says the first, and a lemma `no_..` the second.
-use Rattle.std.proofs.Common.{◌≡◌, ◌⊎◌, ℕ, ℤ, Bool, true, false, not, ◌&&◌, ◌||◌, if◌then◌else◌, List, [], ◌∷◌, Option, Some, None, Ok, Err, is_some, codes, refl, sym, ap, ap₂, subst, ◌∙◌, inl, inr, ⊎_elim}
+use Rattle.std.proofs.Common.{◌≡◌, ◌⊎◌, ℕ, ℤ, Bool, true, false, not, ◌&&◌, ◌||◌, if◌then◌else◌, List, [], ◌∷◌, Option, Some, None, Ok, Err, is_some, codes, refl, sym, ap, ap₂, subst, ◌∙◌, inl, inr, ⊎_elim, map}
 use Rattle.std.specs.Prelude.{Contains}
+use Rattle.std.specs.List.{AllByRecursion}
 use Rattle.std.specs.Str.{str_eq_ignore_ascii_case, str_to_ascii_lowercase}
 use Rattle.std.proofs.lemmas.Bool.{and_from, and_left, and_parts, and_right, both_ways, not-false, not-true, or_cases}
 use Rattle.std.proofs.lemmas.Slice.Eq.{bytes_eq-Decides}
@@ -14,6 +15,9 @@ use Rattle.spx_core.specs.declared.function.FunctionForm.TheVariants as form
 use Rattle.spx_tree.specs.declared.expression.InfixOp.{InfixOp}
 use Rattle.spx_tree.specs.declared.expression.MemberOp.{MemberOp}
 use Rattle.spx_tree.specs.declared.expression.PrefixOp.{PrefixOp}
+use Rattle.spx_core.specs.declared.aggregate.Composition.{Composition}
+use Rattle.spx_core.specs.declared.aggregate.Given.{Given}
+use Rattle.spx_core.specs.declared.aggregate.Role.TheVariants as role
 use Rattle.spx_core.specs.declared.entity.BaseType.{BaseType}
 use Rattle.spx_core.specs.declared.entity.Entity.{Entity}
 use Rattle.spx_core.specs.declared.entity.Entity.TheVariants as entity
@@ -33,28 +37,27 @@ use Rattle.spx_core.specs.declared.function.CoreFunction.{CoreFunction}
 use Rattle.spx_core.specs.declared.function.Mapping.{Mapping}
 use Rattle.spx_core.specs.declared.rule.Breach.{Breach}
 use Rattle.spx_core.specs.declared.rule.RuleName.{RuleName}
-use Rattle.spx_core.specs.declared.rule.RuleName.TheVariants.{N1, N3, N10, N12, N14, N18}
+use Rattle.spx_core.specs.declared.rule.RuleName.TheVariants.{N1, N3, N10, N12, N14, N18, N16}
 use Rattle.spx_core.specs.declared.rule.ExprType.TheVariants.{Of}
 use Rattle.spx_core.specs.declared.rule.Typing.{Typing}
+use Rattle.spx_core.specs.Aggregates.{has_others_last, is_complete, with_parts}
 use Rattle.spx_core.specs.HasType.{HasType}
-use Rattle.spx_core.specs.Judged.{Judged, ◌>>=◌, array_attribute, breach_of, has_end, application, applied_form, attribute, attribute_function, condition, element, entry_value, expr_step, function_at, has_attribute, implicit, ordered_type, is_attribute, is_first, is_function, is_whole, is_word, judged, keeps, mapped, member_of_range, member_of_type, named_object, named_target, named_type, named_value, object_at, operand_of, operation, referred_object, referred_type, selected, sign, standing_at, target_at, type_at, value_at, whole}
+use Rattle.spx_core.specs.Judged.{Judged, ◌>>=◌, array_attribute, breach_of, has_end, application, applied_form, attribute, attribute_function, condition, element, entry_value, expr_step, function_at, has_attribute, implicit, ordered_type, is_attribute, is_first, is_function, is_whole, is_word, judged, keeps, mapped, member_of_range, member_of_type, named_object, named_target, named_type, named_value, object_at, operand_of, operation, referred_object, referred_type, selected, sign, standing_at, target_at, type_at, value_at, whole, composed, has_right_components, judged_parts}
 use Rattle.spx_core.specs.NameBreaches as broken
 use Rattle.spx_core.specs.NameBreaches.{BreaksCondition, BreaksExpr, BreaksFaulty, BreaksName, BreaksReference, IsObject, IsTarget, IsType, IsValue, assigned_type}
 use Rattle.spx_core.specs.Statements.{test}
-use Rattle.spx_core.specs.Types.{both_held, has_literals, has_numbers, has_parts, is_boolean, is_held, is_numeric, is_of, is_taken, is_typed_at, left_type, lies_in, lies_in_operand, lies_within, met, operand_fits, operands_fit, result_of, result_type, right_type, shifted_value, signed_result, three_fit}
+use Rattle.spx_core.specs.Types.{both_held, has_literals, has_numbers, has_parts, is_boolean, is_held, is_numeric, is_of, is_taken, is_typed_at, left_type, lies_in, lies_in_operand, lies_within, met, operand_fits, operands_fit, result_of, result_type, right_type, shifted_value, signed_result, three_fit, is_type_at}
+use Rattle.spx_core.proofs.AggregateBreachLaws.{Found, PassesChoice, PassesValue, choice_passes, components_found, components_pass, fields_pass, part_passes, parts_found, value_passes}
 use Rattle.spx_core.proofs.Elements.{in_first, in_none}
-use Rattle.spx_core.proofs.Judgements.{bound, by_part, by_test, joined, kept, ok_is}
+use Rattle.spx_core.proofs.Judgements.{bound, by_part, by_test, joined, kept, ok_is, told}
 use Rattle.spx_core.proofs.TypedLaws.{complete, sound}
-use Rattle.spx_core.proofs.Callers.Expressions.{Cases, induct, fold-Number, fold-Name, fold-Entry, fold-Attribute, fold-Applied, fold-Parenthesized, fold-Implicit, fold-Prefix, fold-Infix, fold-InType, fold-InRange, fold-Element, fold-Selected, fold-ArrayAttribute, fold-Faulty}
+use Rattle.spx_core.proofs.Callers.Expressions.{Cases, induct, fold-Number, fold-Name, fold-Entry, fold-Attribute, fold-Applied, fold-Parenthesized, fold-Implicit, fold-Prefix, fold-Infix, fold-InType, fold-InRange, fold-Element, fold-Selected, fold-ArrayAttribute, fold-Faulty, fold-Aggregate}
 
 -- ---- names
 
 -- what the breach says is broken there
 abbrev pub At : (RuleName → Place → Type 0) → Breach → Type 0
 At Breaks b = Breaks b.rule b.place
-
-told : {A : Type 0} (Breaks : RuleName → Place → Type 0) (rule : RuleName) (place : Place) (b : Breach) → ◌≡◌ {A = Judged A} (Err (record { rule = rule; place = place })) (Err b) → Breaks rule place → At Breaks b
-told Breaks rule place b h breaks = let same : record { rule = rule; place = place } ≡ b = cc in subst (At Breaks) same breaks
 
 object_found : (name : CoreName) (e : Option Entity) (b : Breach) → name.entity ≡ e → object_at name.name.place e ≡ Err b → At (BreaksName IsObject name) b
 object_found name None b is h = told (BreaksName IsObject name) N1 name.name.place b h (broken.undeclared is)
@@ -237,9 +240,6 @@ ordered_found Breaks reference b of_type without h =
 
 -- ---- expressions
 
-abbrev Found : CoreExpr → Type 0
-Found e = (b : Breach) → judged e ≡ Err b → At (BreaksExpr e) b
-
 -- what is an attribute, and neither `First` nor `Last`, is a function
 other_one : (n a l f : Bool) → ((n && a) || (l && f)) ≡ true → a ≡ false → f ≡ true
 other_one n a l f h other = ⊎_elim (λ left. absurd (both_ways a other (and_parts n a left).1)) (λ right. (and_parts l f right).1) (or_cases (n && a) (l && f) h)
@@ -368,6 +368,17 @@ end_found a designator x o d b h =
     by_part (keeps N10 o.place (is_typed_at x.array o.of)) _ b h (λ e. by_test Breaks N10 o.place (is_typed_at x.array o.of) b e (broken.no_array_with_ends a designator x o d)) (λ _ _ h.
     by_part (keeps N3 o.place (has_end x.index designator.text)) _ b h (λ e. by_test Breaks N3 o.place (has_end x.index designator.text) b e (broken.no_end a designator x o d)) (λ _ _ h. absurd cc))
 
+-- an aggregate
+aggregate_found : (name : CoreName) (c : Composition) (parts : List CoreExpr) → AllByRecursion Found parts → (b : Breach) → composed name c (map judged parts) ≡ Err b → At (BreaksExpr (expr.Aggregate name c parts)) b
+aggregate_found name c parts all b h =
+    let Breaks = BreaksExpr (expr.Aggregate name c parts) in
+    by_part (named_type name) _ b h (λ e. broken.composed_type name c parts b.rule b.place (type_found name _ b refl e)) (λ subtype is h.
+    by_part (keeps N10 name.name.place (is_type_at c.of subtype.base)) _ b h
+    (λ e. by_test Breaks N10 name.name.place (is_type_at c.of subtype.base) b e (broken.composed_of_another_type name c parts subtype (type_is name.name.place name.entity subtype is))) (λ _ _ h.
+    by_part (keeps N16 name.name.place (has_right_components c (map judged parts))) _ b h
+    (λ e. by_test Breaks N16 name.name.place (has_right_components c (map judged parts)) b e (components_found name c parts b)) (λ _ _ h.
+    by_part (judged_parts c.roles (map judged parts)) _ b h (parts_found name c parts b c.roles parts all (λ e at. at) (λ x at. at) (λ x at. at)) (λ _ _ h. absurd cc))))
+
 -- a name that denotes nothing breaks the rule that is reported of it
 pub faulty_breaks : (root : Option Entity) (fault : NameFault) (name : Name) → let faulty : FaultyName = record { root = root; fault = fault; name = name } in At (BreaksFaulty faulty) (breach_of faulty)
 faulty_breaks None fault name = broken.undeclared refl
@@ -407,6 +418,7 @@ found_cases = record {
       by_part (judged a) _ b (sym (fold-Selected expr_step a field x) ∙ h) (λ e. broken.record_of a field x b.rule b.place (p b e)) (λ o is e. selected_found a field x o (sound a o is) b e);
   array_attribute = λ a designator x p b h.
       by_part (judged a) _ b (sym (fold-ArrayAttribute expr_step a designator x) ∙ h) (λ e. broken.array_of a designator x b.rule b.place (p b e)) (λ o is e. end_found a designator x o (sound a o is) b e);
+  aggregate = λ name c parts all b h. aggregate_found name c parts all b (sym (fold-Aggregate expr_step name c parts) ∙ h);
   faulty = λ faulty b h. let e : Err (breach_of faulty) ≡ Err b = sym (fold-Faulty expr_step faulty) ∙ h in broken.faulty faulty b.rule b.place (faulty_found faulty b cc);
 }
 
@@ -630,6 +642,33 @@ end_parts a designator x t h =
     let ends = bound (keeps N3 o.0.place (has_end x.index designator.text)) _ t whole.2 in
     (o.0, o.1, kept N10 o.0.place _ whole.1, kept N3 o.0.place _ ends.1)
 
+-- what an aggregate passes
+record PassesAggregate (name : CoreName) (c : Composition) (parts : List CoreExpr) : Type 0 where
+  subtype : Subtype
+  named : named_type name ≡ Ok subtype
+  of_type : is_type_at c.of subtype.base ≡ true
+  others_last : has_others_last c.written ≡ true
+  complete : is_complete c ≡ true
+  parts_judged : judged_parts c.roles (map judged parts) ≡ Ok tt
+
+aggregate_passes : (name : CoreName) (c : Composition) (parts : List CoreExpr) (t : Typing) → judged (expr.Aggregate name c parts) ≡ Ok t → PassesAggregate name c parts
+aggregate_passes name c parts t h =
+    let s = bound (named_type name) _ t (sym (fold-Aggregate expr_step name c parts) ∙ h) in
+    let i = bound (keeps N10 name.name.place (is_type_at c.of s.0.base)) _ t s.2 in
+    let k = bound (keeps N16 name.name.place (has_right_components c (map judged parts))) _ t i.2 in
+    let p = bound (judged_parts c.roles (map judged parts)) _ t k.2 in
+    let given = components_pass c (map judged parts) (kept N16 name.name.place _ k.1) p.1 in
+    record { subtype = s.0; named = s.1; of_type = kept N10 name.name.place _ i.1; others_last = given.0; complete = given.1; parts_judged = p.1 }
+
+-- what a choice and a value of it pass
+choice_in : (name : CoreName) (c : Composition) (parts : List CoreExpr) (t : Typing) → judged (expr.Aggregate name c parts) ≡ Ok t → (base : BaseType) (e : CoreExpr) (k : Typing) → Contains (with_parts c.roles parts) (role.Index base, e)
+    → HasType e k → PassesChoice base k
+choice_in name c parts t ok = choice_passes c.roles parts (aggregate_passes name c parts t ok).parts_judged
+
+value_in : (name : CoreName) (c : Composition) (parts : List CoreExpr) (t : Typing) → judged (expr.Aggregate name c parts) ≡ Ok t → (g : Given) (of : Subtype) (one : Bool) (e : CoreExpr) (v : Typing)
+    → Contains (with_parts c.roles parts) (role.Value g of one, e) → HasType e v → PassesValue of one v
+value_in name c parts t ok = value_passes c.roles parts (aggregate_passes name c parts t ok).parts_judged
+
 -- one expression has one type
 pub one_typing : (e : CoreExpr) (t u : Typing) → judged e ≡ Ok t → HasType e u → t ≡ u
 one_typing e t u h d = ok_is (sym h ∙ complete e u d)
@@ -713,6 +752,24 @@ no_expr _ _ _ (broken.no_record a field x o d fails) t ok = let p = selected_par
 no_expr _ _ _ (broken.array_of a designator x rule place h) t ok = let p = end_parts a designator x t ok in no_expr a rule place h p.0 p.1
 no_expr _ _ _ (broken.no_array_with_ends a designator x o d fails) t ok = let p = end_parts a designator x t ok in both_ways _ fails (subst (λ (o : Typing). is_typed_at x.array o.of ≡ true) (one_typing a p.0 o p.1 d) p.2)
 no_expr _ _ _ (broken.no_end a designator x o d fails) t ok = both_ways _ fails (end_parts a designator x t ok).3
+no_expr _ _ _ (broken.composed_type n c parts rule place h) t ok = let p = aggregate_passes n c parts t ok in no_type_name n p.subtype p.named rule place h
+no_expr _ _ _ (broken.composed_of_another_type n c parts subtype is fails) t ok =
+    let p = aggregate_passes n c parts t ok in
+    let same : p.subtype ≡ subtype = ok_is (sym p.named ∙ ap (type_at n.name.place) is) in
+    both_ways _ fails (subst (λ (s : Subtype). is_type_at c.of s.base ≡ true) same p.of_type)
+no_expr _ _ _ (broken.others_not_last n c parts fails) t ok = both_ways _ fails (aggregate_passes n c parts t ok).others_last
+no_expr _ _ _ (broken.not_given_once n c parts fails) t ok = both_ways _ fails (aggregate_passes n c parts t ok).complete
+no_expr _ _ _ (broken.composed_part n c parts e rule place at h) t ok = let p = part_passes c.roles parts (aggregate_passes n c parts t ok).parts_judged e at in no_expr e rule place h p.0 p.1
+no_expr _ _ _ (broken.choice_of_another_type n c parts base e k at d fails) t ok = both_ways _ fails (choice_in n c parts t ok base e k at d).of_type
+no_expr _ _ _ (broken.choice_not_static n c parts base e k at d none) t ok =
+    let static = (choice_in n c parts t ok base e k at d).static in
+    let no : None ≡ Some static.0 = sym none ∙ static.1 in
+    absurd cc
+no_expr _ _ _ (broken.choice_out_of_type n c parts base e k at d fails) t ok = both_ways _ fails (choice_in n c parts t ok base e k at d).lies
+no_expr _ _ _ (broken.no_such_field n c parts place e at) t ok = fields_pass c.roles parts (aggregate_passes n c parts t ok).parts_judged place e at
+no_expr _ _ _ (broken.of_different_types n c parts g of e v at d) t ok = both_ways false refl (value_in n c parts t ok g of false e v at d).of_one
+no_expr _ _ _ (broken.value_of_another_type n c parts g of one e v at d fails) t ok = both_ways _ fails (value_in n c parts t ok g of one e v at d).of_type
+no_expr _ _ _ (broken.value_out_of_type n c parts g of one e v at d fails) t ok = both_ways _ fails (value_in n c parts t ok g of one e v at d).lies
 no_expr _ _ _ (broken.faulty faulty rule place h) t ok = let no : Err (breach_of faulty) ≡ Ok t = sym (fold-Faulty expr_step faulty) ∙ ok in absurd cc
 no_expr _ _ _ (broken.no_operand op at a o d fails) t ok = both_ways _ fails (signed_passes op at a o t d ok).0
 no_expr _ _ _ (broken.sign_out_of_range op at a o d fails) t ok = both_ways _ fails (signed_passes op at a o t d ok).1

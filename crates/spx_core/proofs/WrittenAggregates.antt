@@ -2,7 +2,7 @@
 use Rattle.std.specs.Prelude.{⊤, is_some, ℕ, ℤ, ◌==◌, pos, ◌+◌, ◌+ℤ◌, option_map, length, filter_map}
 use Rattle.std.proofs.Common.{◌≡◌, Bool, true, false, if◌then◌else◌, List, [], ◌∷◌, ◌++◌, map, Option, Some, None, ap, ap₂, ◌∙◌, sym, subst, refl}
 use Rattle.std.specs.List.{AllByRecursion, cons_option, flat_map}
-use Rattle.std.proofs.lemmas.List.{append_assoc, map-append}
+use Rattle.std.proofs.lemmas.List.{append_assoc}
 use Rattle.spx_tree.specs.declared.expression.Aggregate.{Aggregate}
 use Rattle.spx_tree.specs.declared.expression.Aggregate.TheVariants.{Positional, Named}
 use Rattle.spx_tree.specs.declared.expression.ChoiceForm.{ChoiceForm}

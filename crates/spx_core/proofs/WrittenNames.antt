@@ -157,7 +157,7 @@ value_along_written scene root before steps front all parts a of is whole =
     (followed_written root.name x.way a before front is) in
     let steps_are : (before ++ map step_written x.way) ++ x.rest ≡ before ++ steps = append_assoc before (map step_written x.way) x.rest ∙ ap (λ (ys : List NameStep). before ++ ys) taken.0 in
     let parts_are : (front ++ flat_map parts_written x.way) ++ all_written x.parts ≡ all_written all =
-        append_assoc front (flat_map parts_written x.way) (all_written x.parts) ∙ ap (λ (ys : List Expr). front ++ ys) taken.1 ∙ whole in
+    append_assoc front (flat_map parts_written x.way) (all_written x.parts) ∙ ap (λ (ys : List Expr). front ++ ys) taken.1 ∙ whole in
     or_faulty_written root (path_of root (before ++ steps)) all _ (part_value scene a x) (subst (λ (e : Expr). ValueWritten e (part_value scene a x)) (ap₂ (named root.name) steps_are parts_are) value)
 
 -- of a variable, or of the value that it has on entry

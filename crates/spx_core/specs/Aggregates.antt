@@ -1,10 +1,12 @@
 -- Which components the values of an aggregate are for (Ada 95 RM 4.3.1, 4.3.3).
 use Rattle.std.specs.Prelude.{ℕ, pos, ◌-ℤ◌, Bool, true, false, ◌||◌, ◌&&◌, not, int_le, int_lt, List, [], ◌∷◌, map}
 use Rattle.std.specs.List.{flat_map, list_all, list_any}
+use Rattle.spx_text.specs.declared.place.Place.{Place}
 use Rattle.spx_tree.specs.declared.expression.Aggregate.{Aggregate}
 use Rattle.spx_tree.specs.declared.expression.Aggregate.TheVariants.{Positional, Named}
 use Rattle.spx_tree.specs.declared.expression.ChoiceList.{ChoiceList}
 use Rattle.spx_tree.specs.declared.expression.ChoiceList.TheVariants as choices
+use Rattle.spx_tree.specs.declared.expression.Expr.{Expr}
 use Rattle.spx_core.specs.declared.aggregate.Components.{Components}
 use Rattle.spx_core.specs.declared.aggregate.Components.TheVariants.{Elements, Fields}
 use Rattle.spx_core.specs.declared.aggregate.Composition.{Composition}
@@ -31,6 +33,14 @@ with_parts (role.Value g of are_of_one ∷ roles) (e ∷ parts) = (role.Value g 
 with_parts (role.Field field ∷ roles) parts = with_parts roles parts
 with_parts (role.NoField place e ∷ roles) parts = with_parts roles parts
 with_parts roles parts = []
+
+-- the choices that name no field, as far as there are expressions
+abbrev pub unknown_fields : List Role → List CoreExpr → List (Place × Expr)
+unknown_fields (role.Index base ∷ roles) (e ∷ parts) = unknown_fields roles parts
+unknown_fields (role.Value g of are_of_one ∷ roles) (e ∷ parts) = unknown_fields roles parts
+unknown_fields (role.Field field ∷ roles) parts = unknown_fields roles parts
+unknown_fields (role.NoField place e ∷ roles) parts = (place, e) ∷ unknown_fields roles parts
+unknown_fields roles parts = []
 
 -- one position
 abbrev pub span_at : ℕ → Span

@@ -1,5 +1,5 @@
 -- Aggregates in which each expression stands with what it is for (Ada 95 RM 4.3.1, 4.3.3).
-use Rattle.std.specs.Prelude.{ℕ, ℤ, zero, suc, pos, ◌+◌, ◌+ℤ◌, ◌==◌, int_lt, Bool, true, false, not, ◌&&◌, if◌then◌else◌, List, [], ◌∷◌, ◌++◌, map, filter, filter_map, length, Option, Some, None, option_map, is_some, slice_get}
+use Rattle.std.specs.Prelude.{ℕ, ℤ, pos, ◌+◌, ◌+ℤ◌, ◌==◌, int_lt, Bool, true, not, if◌then◌else◌, List, [], ◌∷◌, ◌++◌, map, filter, filter_map, length, Option, Some, None, option_map, is_some, slice_get}
 use Rattle.std.specs.List.{cons_option, flat_map, list_all, list_any, range_with_len}
 use Rattle.std.specs.Str.{str_eq_ignore_ascii_case}
 use Rattle.spx_text.specs.declared.place.Place.{Place}
@@ -16,7 +16,6 @@ use Rattle.spx_core.specs.declared.name.CoreName.{CoreName}
 use Rattle.spx_core.specs.Places.{place_of}
 use Rattle.spx_core.specs.WrittenExpressions.{erased_expr}
 use Rattle.spx_core.specs.declared.aggregate.Components.TheVariants.{Elements, Fields}
-use Rattle.spx_core.specs.declared.aggregate.Composition.{Composition}
 use Rattle.spx_core.specs.declared.aggregate.Given.{Given}
 use Rattle.spx_core.specs.declared.aggregate.Given.TheVariants as given
 use Rattle.spx_core.specs.declared.aggregate.Role.{Role}
@@ -27,10 +26,9 @@ use Rattle.spx_core.specs.declared.entity.TypeId.{TypeId}
 use Rattle.spx_core.specs.declared.entity.TheConstants.{UNIVERSAL}
 use Rattle.spx_core.specs.declared.expression.CoreExpr.{CoreExpr, CoreExpr-F, out-CoreExpr}
 use Rattle.spx_core.specs.declared.expression.CoreExpr.TheVariants as expr
-use Rattle.spx_core.specs.declared.function.Span.{Span}
 use Rattle.spx_core.specs.declared.program.Field.{Field}
 use Rattle.spx_core.specs.declared.program.TypeForm.{TypeForm}
-use Rattle.spx_core.specs.declared.program.TypeForm.TheVariants.{Scalar, Array, Record}
+use Rattle.spx_core.specs.declared.program.TypeForm.TheVariants.{Array, Record}
 use Rattle.spx_core.specs.declared.rule.ExprType.TheVariants.{Of}
 use Rattle.spx_core.specs.Contexts.{in_context}
 use Rattle.spx_core.specs.StaticValues.{chosen_by}
@@ -154,9 +152,10 @@ are_of_one [] = true
 are_of_one (of ∷ rest) = list_all (λ (other : Subtype). is_of of.base (Of other.base)) rest
 
 abbrev pub field_value : List Field → List ℕ → CoreExpr → Role × Option CoreExpr
-field_value fields positions value =
-    (role.Value (given.Fields positions) (common_type (types_at fields positions)) (are_of_one (types_at fields positions)),
-      Some (in_context (Of (common_type (types_at fields positions)).base) value))
+field_value fields positions value = (
+  role.Value (given.Fields positions) (common_type (types_at fields positions)) (are_of_one (types_at fields positions)),
+  Some (in_context (Of (common_type (types_at fields positions)).base) value),
+)
 
 abbrev pub in_record : List Field → List ℕ → Association → Known
 in_record fields chosen a = flat_map (field_bounds fields) (listed_choices a.choices) ++ field_value fields (positions_of fields chosen a.choices) a.value ∷ []

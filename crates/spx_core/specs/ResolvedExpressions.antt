@@ -1,6 +1,6 @@
 -- Expressions, ranges and targets in which each name stands with what it denotes at its place, and the values of those that are
 -- static (Ada 95 RM 4). This is total: a name that no visible declaration explains stands with nothing.
-use Rattle.std.specs.Prelude.{take, drop, ℤ, pos, Bool, ◌&&◌, not, true, false, zero, suc, if◌then◌else◌, List, [], ◌∷◌, map, Option, Some, None, Ok, Err}
+use Rattle.std.specs.Prelude.{take, drop, Bool, ◌&&◌, not, true, false, zero, suc, if◌then◌else◌, List, [], ◌∷◌, map, Option, Some, None}
 use Rattle.spx_tree.specs.declared.expression.Identifier.{Identifier}
 use Rattle.spx_tree.specs.declared.expression.Name.{Name}
 use Rattle.spx_tree.specs.declared.expression.Arguments.TheVariants.{Positional}
@@ -33,14 +33,12 @@ use Rattle.spx_core.specs.Uses.{variable_is, variable_of}
 use Rattle.spx_core.specs.Dependency.{is_exported_by, is_imported_by}
 use Rattle.spx_core.specs.declared.statement.CoreRange.{CoreRange}
 use Rattle.spx_core.specs.declared.dependency.CoreDerivesItem.{CoreDerivesItem}
-use Rattle.spx_core.specs.declared.program.Field.{Field}
 use Rattle.spx_core.specs.declared.program.TypeForm.{TypeForm}
 use Rattle.spx_core.specs.declared.program.TypeForm.TheVariants.{Array}
 use Rattle.spx_core.specs.declared.program.TypeRow.{TypeRow}
 use Rattle.spx_core.specs.declared.rule.ExprType.{ExprType}
 use Rattle.spx_core.specs.declared.rule.ExprType.TheVariants.{Universal, Of}
-use Rattle.spx_core.specs.declared.rule.Typing.{Typing}
-use Rattle.spx_core.specs.Judged.{Judged, has_attribute, is_attribute, judged}
+use Rattle.spx_core.specs.Judged.{has_attribute, is_attribute}
 use Rattle.spx_core.specs.Contexts.{in_context, type_along}
 use Rattle.spx_core.specs.ResolvedAggregates.{aggregate_value}
 use Rattle.spx_tree.specs.Written.{aggregate_takes}

@@ -39,12 +39,19 @@ use Rattle.spx_term.specs.Substitution.{is_free, reads, reads_step, IsClosed}
 use Rattle.spx_term.specs.Parts.{part_term, with_end_term}
 use Rattle.spx_term.specs.Values.{literal_in}
 use Rattle.spx_term.proofs.Equality.{same_name-Decides}
-use Rattle.spx_term.proofs.Terms.{fold-Number, fold-Truth, fold-Variable, fold-Prefix, fold-Infix, fold-Unary, fold-Binary, fold-Ternary}
+use Rattle.spx_term.proofs.Terms.{fold-Blank, fold-Number, fold-Truth, fold-Variable, fold-Prefix, fold-Infix, fold-Unary, fold-Binary, fold-Ternary}
 use Rattle.spx_meaning.specs.Evaluation.{term_op}
 use Rattle.spx_meaning.specs.Literals.{literal}
 use Rattle.spx_meaning.specs.Parts.{array_of, field_name}
 use Rattle.spx_meaning.specs.Stores.{component_of, type_of}
-use Rattle.spx_formula.specs.Terms.{first_name, last_name, first_term, last_term, member_term, between, named, now, now_term, literal_or, moved_term, signed_term, term_of, term_with, term_with-Number, term_with-Parenthesized, term_with-Implicit, term_with-Prefix, term_with-Infix, term_with-InType, term_with-InRange, term_with-Name, term_with-Entry, term_with-Attribute, mapped_term, term_with-Applied, term_with-Element, term_with-Selected, term_with-ArrayAttribute, term_with-Faulty, step_of}
+use Rattle.std.specs.List.{AllByRecursion}
+use Rattle.spx_core.specs.declared.aggregate.Composition.{Composition}
+use Rattle.spx_meaning.specs.declared.aggregates.Slot.{Slot}
+use Rattle.spx_meaning.specs.declared.aggregates.Slot.TheVariants.{Elements, Field}
+use Rattle.spx_meaning.specs.Aggregates.{Placed, in_order, others_in, placed, slots}
+use Rattle.spx_formula.specs.Aggregates.{begun_term, chain, composed_term, with_slot_term}
+use Rattle.spx_sound.proofs.AggregateValues.{AllPlaced, AllSlots, order_hold, others_hold, placed_hold, slots_hold}
+use Rattle.spx_formula.specs.Terms.{term_with-Aggregate, first_name, last_name, first_term, last_term, member_term, between, named, now, now_term, literal_or, moved_term, signed_term, term_of, term_with, term_with-Number, term_with-Parenthesized, term_with-Implicit, term_with-Prefix, term_with-Infix, term_with-InType, term_with-InRange, term_with-Name, term_with-Entry, term_with-Attribute, mapped_term, term_with-Applied, term_with-Element, term_with-Selected, term_with-ArrayAttribute, term_with-Faulty, step_of}
 use Rattle.spx_paths.specs.Walks.{bound_term, is_fixed, low_term, high_term, next_term, start_term}
 
 -- a name of the program may take the value of the term
@@ -63,6 +70,10 @@ number_closed n y h = absurd (let e : false ≡ true = read_so y (fold-Number re
 truth_closed : (b : Bool) → IsClosed (term.Truth b)
 unfolding reads
 truth_closed b y h = absurd (let e : false ≡ true = read_so y (fold-Truth reads_step b) h in cc)
+
+blank_closed : (id : ℕ) → IsClosed (term.Blank id)
+unfolding reads
+blank_closed id y h = absurd (let e : false ≡ true = read_so y (fold-Blank reads_step id) h in cc)
 
 pub variable_closed : (x : Name) → is_free x.symbol ≡ true → IsClosed (term.Variable x)
 unfolding reads
@@ -146,6 +157,24 @@ member_closed : (o : MemberOp) (t low high : Term) → IsClosed t → IsClosed l
 member_closed member_op.In t low high closed first last = between_closed t low high closed first last
 member_closed (member_op.NotIn place) t low high closed first last = prefix_closed Not (between t low high) (between_closed t low high closed first last)
 
+-- the term of an aggregate reads none where those of its values do not
+begun_closed : (id : ℕ) (o : Option Term) → ((t : Term) → o ≡ Some t → IsClosed t) → IsClosed (begun_term id o)
+begun_closed id None closed = blank_closed id
+begun_closed id (Some t) closed = unary_closed (unary.Others id) t (closed t refl)
+
+slot_closed : (id : ℕ) (s : Slot) (t whole : Term) → IsClosed t → IsClosed whole → IsClosed (with_slot_term id s t whole)
+slot_closed id (Elements span) t whole closed rest = binary_closed (binary.Elements id span.first span.last) whole t rest closed
+slot_closed id (Field k) t whole closed rest = binary_closed (binary.Field (record { position = id; place = k })) whole t rest closed
+
+chain_closed : (id : ℕ) (xs : List (Slot × Term)) (whole : Term) → AllSlots IsClosed xs → IsClosed whole → IsClosed (chain id xs whole)
+chain_closed id [] whole all closed = closed
+chain_closed id (x ∷ xs) whole all closed = slot_closed id x.0 x.1 (chain id xs whole) all.0 (chain_closed id xs whole all.1 closed)
+
+composed_closed : (c : Composition) (ts : List (Placed Term)) → AllPlaced IsClosed ts → IsClosed (composed_term c ts)
+composed_closed c ts all =
+    chain_closed c.of.0 (in_order (slots ts)) (begun_term c.of.0 (others_in ts)) (order_hold (λ (x : Slot × Term). IsClosed x.1) (slots ts) (slots_hold IsClosed ts all))
+    (begun_closed c.of.0 (others_in ts) (others_hold IsClosed ts all))
+
 -- where these terms read none, no term of an expression does
 module _ (present entered : VarId → Term) (presents : (x : VarId) → IsClosed (present x)) (enters : (x : VarId) → IsClosed (entered x)) where
   abbrev the_term : CoreExpr → Term
@@ -156,6 +185,10 @@ module _ (present entered : VarId → Term) (presents : (x : VarId) → IsClosed
 
   closed_or : (e : CoreExpr) (t : Term) → the_term e ≡ literal_or (literal e) t → IsClosed t → HasClosedTerm e
   closed_or e t is closed = subst IsClosed (sym is) (literal_or_closed (literal e) t closed)
+
+  terms_hold : (parts : List CoreExpr) → AllByRecursion HasClosedTerm parts → AllByRecursion IsClosed (map the_term parts)
+  terms_hold [] all = tt
+  terms_hold (e ∷ parts) all = (all.0, terms_hold parts all.1)
 
   closed_cases : Cases HasClosedTerm
   closed_cases = record {
@@ -179,6 +212,7 @@ module _ (present entered : VarId → Term) (presents : (x : VarId) → IsClosed
     element = λ a place i x h k. subst IsClosed (sym (term_with-Element present entered a place i x)) (binary_closed (binary.Element (array_of x)) (the_term a) (the_term i) h k);
     selected = λ a field x h. subst IsClosed (sym (term_with-Selected present entered a field x)) (unary_closed (unary.Field (field_name x) (component_of x.field)) (the_term a) h);
     array_attribute = λ a designator x h. subst IsClosed (sym (term_with-ArrayAttribute present entered a designator x)) (number_closed (attribute_of x.index designator.text));
+    aggregate = λ name c parts all. subst IsClosed (sym (term_with-Aggregate present entered name c parts)) (composed_closed c (placed c.roles (map the_term parts)) (placed_hold IsClosed c.roles (map the_term parts) (terms_hold parts all)));
     faulty = λ faulty. subst IsClosed (sym (term_with-Faulty present entered faulty)) (number_closed (pos 0));
   }
 
