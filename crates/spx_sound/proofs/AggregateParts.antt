@@ -2,7 +2,7 @@
 use Rattle.std.proofs.Common.{◌≡◌, ◌<◌, ℕ, zero, suc, ℤ, pos, ◌-ℤ◌, Bool, true, false, ◌&&◌, ◌||◌, ◌==◌, if◌then◌else◌, int_le, int_lt, List, [], ◌∷◌, ◌++◌, map, length, Option, Some, None, refl, sym, ap, ap₂, ◌∙◌, subst, arith}
 use Rattle.std.specs.Prelude.{⊤, slice_get, option_map}
 use Rattle.std.specs.List.{AllByRecursion, flat_map, cons_option}
-use Rattle.std.proofs.lemmas.Bool.{and_parts, cond_both, eq-eqb}
+use Rattle.std.proofs.lemmas.Bool.{and_parts, eq-eqb}
 use Rattle.std.proofs.lemmas.Int.{ints}
 use Rattle.std.proofs.lemmas.List.Folds.{list_all-append}
 use Rattle.spx_core.specs.declared.aggregate.Components.{Components}
@@ -15,12 +15,13 @@ use Rattle.spx_core.specs.declared.aggregate.Role.TheVariants as role
 use Rattle.spx_core.specs.declared.entity.Class.{Class}
 use Rattle.spx_core.specs.declared.entity.Class.TheVariants as class
 use Rattle.spx_core.specs.declared.entity.Subtype.{Subtype}
-use Rattle.spx_core.specs.declared.entity.TypeId.{TypeId}
+use Rattle.spx_core.specs.declared.expression.CoreExpr.{CoreExpr}
 use Rattle.spx_core.specs.declared.function.Span.{Span}
 use Rattle.spx_core.specs.declared.program.Field.{Field}
 use Rattle.spx_core.specs.declared.program.TypeForm.{TypeForm}
 use Rattle.spx_core.specs.declared.program.TypeForm.TheVariants.{Scalar, Array, Record}
 use Rattle.spx_core.specs.declared.rule.ExprType.TheVariants.{Of}
+use Rattle.spx_core.specs.declared.rule.Typing.{Typing}
 use Rattle.spx_core.specs.Aggregates.{all_components, all_given, are_given_once, given_by, is_complete, lie_within, span_at, spans_given}
 use Rattle.spx_core.specs.Parts.{HasComponentsOf, IsOfArray, IsOfRecord, field_of_form}
 use Rattle.spx_core.specs.ResolvedAggregates.{are_of_one, common_type, in_both, types_at}
@@ -33,7 +34,9 @@ use Rattle.spx_term.proofs.CompositeLaws.{SaidOf}
 use Rattle.spx_meaning.specs.Stores.{component_of}
 use Rattle.spx_meaning.specs.declared.aggregates.Slot.{Slot}
 use Rattle.spx_meaning.specs.declared.aggregates.Slot.TheVariants as slot
-use Rattle.spx_meaning.specs.Aggregates.{Placed, first_of_slot, in_order, inserted, others_in, placed, slots, slots_of}
+use Rattle.spx_meaning.specs.Aggregates.{Placed, in_order, others_in, placed, slots, slots_of}
+use Rattle.spx_sound.proofs.AggregateValues.{order_hold}
+use Rattle.spx_sound.proofs.Typings.{AreParts, IsTypedAs}
 
 -- ---- the type of a value
 
@@ -122,6 +125,26 @@ AreValues P (role.Value g of one ∷ roles) (x ∷ xs) = (one ≡ true) × P of 
 AreValues P (role.Field field ∷ roles) xs = AreValues P roles xs
 AreValues P (role.NoField place e ∷ roles) xs = AreValues P roles xs
 AreValues P roles xs = ⊤
+
+pub mapped_values : {A B : Type 0} (P : Subtype → B → Type 0) (f : A → B) (roles : List Role) (xs : List A) → AreValues (λ of x. P of (f x)) roles xs → AreValues P roles (map f xs)
+mapped_values P f [] [] all = tt
+mapped_values P f [] (x ∷ xs) all = tt
+mapped_values P f (role.Index base ∷ roles) [] all = tt
+mapped_values P f (role.Value g of one ∷ roles) [] all = tt
+mapped_values P f (role.Index base ∷ roles) (x ∷ xs) all = mapped_values P f roles xs all
+mapped_values P f (role.Value g of one ∷ roles) (x ∷ xs) all = (all.0, all.1, mapped_values P f roles xs all.2)
+mapped_values P f (role.Field field ∷ roles) xs all = mapped_values P f roles xs all
+mapped_values P f (role.NoField place e ∷ roles) xs all = mapped_values P f roles xs all
+
+-- so it is where it follows from what breaks no rule
+pub typed_values : (P : CoreExpr → Typing → Type 0) (Q : CoreExpr → Type 0) (R : Subtype → CoreExpr → Type 0) → ((of : Subtype) (e : CoreExpr) → Q e → IsTypedAs P of.base e → R of e) → (roles : List Role) (parts : List CoreExpr) → AllByRecursion Q parts → AreParts P roles parts → AreValues R roles parts
+typed_values P Q R take [] parts all typed = tt
+typed_values P Q R take (role.Index base ∷ roles) [] all typed = tt
+typed_values P Q R take (role.Value g of one ∷ roles) [] all typed = tt
+typed_values P Q R take (role.Index base ∷ roles) (e ∷ parts) all typed = typed_values P Q R take roles parts all.1 typed.1
+typed_values P Q R take (role.Value g of one ∷ roles) (e ∷ parts) all typed = (typed.0, take of e all.0 typed.1, typed_values P Q R take roles parts all.1 typed.2)
+typed_values P Q R take (role.Field field ∷ roles) parts all typed = typed_values P Q R take roles parts all typed
+typed_values P Q R take (role.NoField place e ∷ roles) parts all typed = typed_values P Q R take roles parts all typed
 
 -- what is known of the fields of a record holds of those that it has
 abbrev Inside : Span → Role → Type 0
@@ -235,14 +258,6 @@ module _ (types : Types) where
     others_fit ((given.Elements spans, y) ∷ values) all x is = others_fit values all.1 x is
     others_fit ((given.Fields positions, y) ∷ values) all x is = others_fit values all.1 x is
 
-    inserted_fits : (x : Slot × A) (ys : List (Slot × A)) → SlotFits x → AllByRecursion SlotFits ys → AllByRecursion SlotFits (inserted x ys)
-    inserted_fits x [] p all = (p, tt)
-    inserted_fits x (y ∷ ys) p all = cond_both (int_lt (first_of_slot y.0) (first_of_slot x.0)) (y ∷ inserted x ys) (x ∷ y ∷ ys) (AllByRecursion SlotFits) (λ before. (all.0, inserted_fits x ys p all.1)) (λ after. (p, all))
-
-    in_order_fit : (xs : List (Slot × A)) → AllByRecursion SlotFits xs → AllByRecursion SlotFits (in_order xs)
-    in_order_fit [] all = tt
-    in_order_fit (x ∷ xs) all = inserted_fits x (in_order xs) all.0 (in_order_fit xs all.1)
-
     -- what is known of the slots in order, and of the value for all others
     pub record AllFit (values : List (Placed A)) : Type 0 where
       pub each : AllByRecursion SlotFits (in_order (slots values))
@@ -252,4 +267,4 @@ module _ (types : Types) where
     all_fit c form has complete said xs all =
         let values = placed c.roles xs in
         let fit = placed_fit c form has complete said xs all in
-        record { each = in_order_fit (slots values) (slots_fit values fit); others = others_fit values fit }
+        record { each = order_hold SlotFits (slots values) (slots_fit values fit); others = others_fit values fit }
