@@ -1,2 +1,4 @@
+pub mod Aggregates
+pub mod Spans
 pub mod TypeIds
 pub mod Ways

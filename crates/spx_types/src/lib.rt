@@ -8,6 +8,7 @@
 //! the table of types says of a declared type, `row_with` and `form_of` make.
 #![tactic(auto)]
 
+mod aggregates;
 mod attributes;
 mod expression;
 mod functions;
@@ -15,6 +16,7 @@ mod membership;
 mod names;
 mod parts;
 mod rows;
+mod spans;
 mod targets;
 mod types;
 mod values;

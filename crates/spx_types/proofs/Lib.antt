@@ -1,0 +1,3 @@
+mod GivenSpans
+mod RoleSteps
+mod SpanSteps
