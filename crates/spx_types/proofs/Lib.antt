@@ -1,3 +1,4 @@
 mod GivenSpans
+mod OrderLaws
 mod RoleSteps
 mod SpanSteps

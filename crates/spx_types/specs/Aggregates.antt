@@ -1,12 +1,12 @@
 -- What is found in the expressions of an aggregate, one after another (Ada 95 RM 4.3).
-use Rattle.std.specs.Prelude.{◌≡◌, ⊤, Bool, List, [], ◌∷◌, Ok, Err}
+use Rattle.std.specs.Prelude.{⊤, Bool, List, [], ◌∷◌, Ok, Err}
 use Rattle.spx_core.specs.declared.aggregate.Role.{Role}
 use Rattle.spx_core.specs.declared.aggregate.Role.TheVariants as role
 use Rattle.spx_core.specs.declared.entity.BaseType.{BaseType}
 use Rattle.spx_core.specs.declared.entity.Subtype.{Subtype}
 use Rattle.spx_core.specs.declared.rule.RuleName.TheVariants.{N1}
 use Rattle.spx_core.specs.declared.rule.Typing.{Typing}
-use Rattle.spx_core.specs.Judged.{Judged, ◌>>=◌, component, static_index, judged_choices, judged_parts}
+use Rattle.spx_core.specs.Judged.{Judged, ◌>>=◌, component, static_index}
 
 -- the first broken rule counts
 abbrev pub first_of : Judged ⊤ → Judged ⊤ → Judged ⊤

@@ -7,13 +7,15 @@ ghost use Rattle.spx_core.specs.Judged as rules;
 ghost use Rattle.spx_core.specs.Judged.{judged};
 ghost use Rattle.spx_types.specs.Aggregates.{after_first, choice_judged, component_judged, first_of, index_judged, part_judged, past_fields, rest_judged, surplus_judged};
 
+use crate::coverage::are_given_once;
 use crate::expression::{judge, operand_of, static_at};
 use crate::names::{keeps, named_type};
+use crate::spans::lie_within;
 use crate::types::{is_of, is_type_at};
-use crate::spans::{are_apart, cover, lie_within};
 use crate::values::{lies_in, span_of};
 use spx_core::{
-    BaseType, Breach, Components, Composition, CoreExpr, CoreName, ExprType, Given, Role, RuleName, Span, Subtype, Typing,
+    BaseType, Breach, Components, Composition, CoreExpr, CoreName, ExprType, Given, Role, RuleName,
+    Span, Subtype, Typing,
 };
 use spx_tree::{Aggregate, ChoiceList};
 
@@ -31,7 +33,11 @@ fn static_index(base: BaseType, index: Typing) -> Result<(), Breach>
     let place = index.place;
     keeps(RuleName::N10, place, is_of(base, index.of))?;
     static_at(place, index.value)?;
-    keeps(RuleName::N12, place, lies_in(ExprType::Of(base), index.value))
+    keeps(
+        RuleName::N12,
+        place,
+        lies_in(ExprType::Of(base), index.value),
+    )
 }
 
 /// A value of components of this type is needed, which have one base type.
@@ -173,7 +179,13 @@ fn judge_parts(parts: &[CoreExpr], roles: &[Role]) -> Found
         rest = after_first(here);
     }
     let left = judge_rest(past_fields(rest));
-    found_with(found, Found { choices: left, parts: left })
+    found_with(
+        found,
+        Found {
+            choices: left,
+            parts: left,
+        },
+    )
 }
 
 /// All components, by their indexes or positions.
@@ -230,10 +242,7 @@ fn is_complete(composition: &Composition) -> bool
 {
     let all = all_components(composition.components);
     let roles = composition.roles.as_slice();
-    lie_within(all, roles)
-        && are_apart(roles)
-        && (has_others(roles) || cover(all, roles))
-        && !has_idle(roles)
+    lie_within(all, roles) && are_given_once(all, roles, has_others(roles)) && !has_idle(roles)
 }
 
 /// Whether `others` comes last, and, where the choices break no rule, each component has one value.
@@ -275,9 +284,21 @@ pub fn composed(
 {
     let place = name.name.place;
     let subtype = named_type(name)?;
-    keeps(RuleName::N10, place, is_type_at(composition.of, subtype.base))?;
+    keeps(
+        RuleName::N10,
+        place,
+        is_type_at(composition.of, subtype.base),
+    )?;
     let found = judge_parts(parts, composition.roles.as_slice());
-    keeps(RuleName::N16, place, has_right_components(composition, found.choices))?;
+    keeps(
+        RuleName::N16,
+        place,
+        has_right_components(composition, found.choices),
+    )?;
     found.parts?;
-    Ok(Typing { of: ExprType::Of(subtype.base), value: None, place })
+    Ok(Typing {
+        of: ExprType::Of(subtype.base),
+        value: None,
+        place,
+    })
 }

@@ -7,9 +7,10 @@ aggregates::judge_parts-loop-part-preserved t c =
     let found = c.found_with-found.ensures in
     let next = c.judge_part.ensures in
     let here = c.past_fields-here.ensures in
-    let rest = c.after_first-rest.ensures in
-    (choices_at _ _ _ _ roles _ _ _ _ _ c.loop-part-test.true c.part-item.is here rest found.choices c.loop-part.invariant.0 next.choices,
-     parts_at _ _ _ _ roles _ _ _ _ _ c.loop-part-test.true c.part-item.is here rest found.parts c.loop-part.invariant.1 next.parts)
+    let rest = c.after_first-rest.ensures in (
+      choices_at _ _ _ _ roles _ _ _ _ _ c.loop-part-test.true c.part-item.is here rest found.choices c.loop-part.invariant.0 next.choices,
+      parts_at _ _ _ _ roles _ _ _ _ _ c.loop-part-test.true c.part-item.is here rest found.parts c.loop-part.invariant.1 next.parts,
+    )
 
 pub aggregates::judge_parts-returns-clause-choices : goal.aggregates::judge_parts-returns-clause-choices
 aggregates::judge_parts-returns-clause-choices t c =

@@ -1,7 +1,7 @@
 use Rattle.std.proofs.Common.{arith}
 use Rattle.std.specs.List.{flat_map}
 use Rattle.spx_types.proofs.SpanSteps.{apart_from_here}
-use Rattle.spx_types.proofs.spans.are_apart_before.Goals as goal
+use Rattle.spx_types.proofs.coverage.are_apart_before.Goals as goal
 
 pub returns-then-overlaps : goal.returns-then-overlaps
 returns-then-overlaps g c =

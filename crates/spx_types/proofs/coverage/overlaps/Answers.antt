@@ -1,6 +1,6 @@
 use Rattle.std.proofs.Common.{arith}
 use Rattle.spx_types.proofs.SpanSteps.{from_here}
-use Rattle.spx_types.proofs.spans.overlaps.Goals as goal
+use Rattle.spx_types.proofs.coverage.overlaps.Goals as goal
 
 pub returns-then-overlap : goal.returns-then-overlap
 returns-then-overlap g c = let e = from_here (g.T.SpanList.spans c.args.list.now) c.loop-k.k c.span_at.result c.span_at.ensures in grind (arith, e)
