@@ -4,8 +4,9 @@ use Rattle.spx_core.specs.declared.aggregate.Role.{Role}
 use Rattle.spx_core.specs.declared.aggregate.Role.TheVariants as role
 use Rattle.spx_core.specs.declared.function.Span.{Span}
 use Rattle.spx_core.specs.declared.statement.CoreAlternative.{CoreAlternative}
+use Rattle.spx_core.specs.declared.statement.CoreChoice.{CoreChoice}
 use Rattle.spx_core.specs.Aggregates.{spans_given}
-use Rattle.spx_core.specs.Commands.{listed, spans_of}
+use Rattle.spx_core.specs.Commands.{alternative, listed, spans_of}
 use Rattle.spx_core.specs.Types.{is_between, is_chosen}
 
 -- those that a value of an aggregate is for
@@ -15,9 +16,13 @@ spans_for (role.Field name) = []
 spans_for (role.NoField place e) = []
 spans_for (role.Value g of are_of_one) = spans_given g
 
+-- the choices of an alternative; `others` lists none
+abbrev pub listed_by : CoreAlternative → List CoreChoice
+listed_by a = listed (alternative a).0
+
 -- those that an alternative is for
 abbrev pub spans_by : CoreAlternative → List Span
-spans_by a = spans_of (listed a.choices)
+spans_by a = spans_of (listed_by a)
 
 -- the value after the last of a span
 abbrev pub next_of : Span → ℤ

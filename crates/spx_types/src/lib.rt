@@ -34,7 +34,7 @@ pub use membership::ordered_type;
 pub use names::{keeps, named_type, referred_object, referred_type};
 pub use parts::indexed;
 pub use rows::{form_of, row_with, subtype_of};
-pub use spans::SpanList;
+pub use spans::{SpanList, listed_by};
 pub use targets::{judged_way, referred_target};
 pub use types::{
     has_numbers, is_number, is_numeric, is_of, is_ordered, is_parted, is_same_type, met,

@@ -4,7 +4,7 @@ ghost use Rattle.std.specs.List.{flat_map};
 ghost use Rattle.spx_core.specs.declared.function.Span.{Span};
 ghost use Rattle.spx_core.specs.Aggregates.{lie_within};
 ghost use Rattle.spx_core.specs.Commands.{given_by};
-ghost use Rattle.spx_types.specs.Spans.{spans_by, spans_for};
+ghost use Rattle.spx_types.specs.Spans.{listed_by, spans_by, spans_for};
 
 use spx_core::{CoreAlternative, CoreChoice, Given, Role, Span};
 
@@ -88,21 +88,25 @@ fn values_of(choice: &CoreChoice) -> Span
     }
 }
 
+/// The choices of an alternative; `others` lists none.
+pub fn listed_by(alternative: &CoreAlternative) -> &[CoreChoice]
+    ensures { result.now ≡ listed_by alternative.now }
+{
+    match &alternative.choices {
+        Some(choices) => choices.as_slice(),
+        None => &[],
+    }
+}
+
 /// An alternative lists its choices.
 impl SpanList for CoreAlternative {
     ghost spans = { spans_by };
 
     fn count(&self) -> usize {
-        match &self.choices {
-            Some(choices) => choices.as_slice().len(),
-            None => 0,
-        }
+        listed_by(self).len()
     }
 
     fn span_at(&self, k: usize) -> Span {
-        match &self.choices {
-            Some(choices) => values_of(&choices.as_slice()[k]),
-            None => unreachable!(),
-        }
+        values_of(&listed_by(self)[k])
     }
 }

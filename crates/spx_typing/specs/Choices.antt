@@ -1,4 +1,4 @@
--- The alternatives of a `case`, from a list; and the values of their choices.
+-- The alternatives of a `case`, from a list.
 use Rattle.std.specs.Prelude.{ℤ, pos, ◌+ℤ◌, Bool, not, ◌||◌, List, [], ◌∷◌, map, Option, Some, Ok}
 use Rattle.spx_text.specs.declared.place.Place.{Place}
 use Rattle.spx_core.specs.declared.expression.CoreExpr.{CoreExpr}
@@ -22,25 +22,9 @@ alternatives_in (first ∷ rest) = alternatives_of (alternative first) (map alte
 abbrev pub given : CoreAlternative → Option (List CoreChoice)
 given a = (alternative a).0
 
--- its choices
-abbrev pub listed_by : CoreAlternative → List CoreChoice
-listed_by a = listed (given a)
-
 -- what is done there
 abbrev pub done_in : CoreAlternative → Command
 done_in a = (alternative a).1
-
--- the values of all choices
-abbrev pub spans_in : List CoreAlternative → List Span
-spans_in alternatives = spans_of (choices_in (alternatives_in alternatives))
-
--- the value after the last of a choice
-abbrev pub next_of : Span → ℤ
-next_of span = span.last +ℤ pos 1
-
--- a value is chosen, if it is one of these
-abbrev pub is_kept : Span → List Span → ℤ → Bool
-is_kept values spans n = not (is_between values.first values.last n) || is_chosen n spans
 
 -- the type of a selector, before its alternatives; of none, nothing is asked
 abbrev pub judged_selector : Place → CoreExpr → List CoreAlternative → Judged ExprType
