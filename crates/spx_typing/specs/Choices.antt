@@ -1,17 +1,15 @@
 -- The alternatives of a `case`, from a list.
-use Rattle.std.specs.Prelude.{ℤ, pos, ◌+ℤ◌, Bool, not, ◌||◌, List, [], ◌∷◌, map, Option, Some, Ok}
+use Rattle.std.specs.Prelude.{List, [], ◌∷◌, map, Option, Some, Ok}
 use Rattle.spx_text.specs.declared.place.Place.{Place}
 use Rattle.spx_core.specs.declared.expression.CoreExpr.{CoreExpr}
-use Rattle.spx_core.specs.declared.function.Span.{Span}
 use Rattle.spx_core.specs.declared.rule.ExprType.{ExprType}
 use Rattle.spx_core.specs.declared.rule.ExprType.TheVariants.{Universal}
 use Rattle.spx_core.specs.declared.rule.RuleName.TheVariants.{N17}
 use Rattle.spx_core.specs.declared.statement.CoreAlternative.{CoreAlternative}
 use Rattle.spx_core.specs.declared.statement.CoreChoice.{CoreChoice}
-use Rattle.spx_core.specs.Commands.{Alternatives, Command, Last, Skip, alternative, alternatives_of, choices_in, listed, spans_of}
+use Rattle.spx_core.specs.Commands.{Alternatives, Command, Last, Skip, alternative, alternatives_of}
 use Rattle.spx_core.specs.Judged.{Judged, ◌>>=◌, keeps}
 use Rattle.spx_core.specs.Statements.{has_right_choices, selected}
-use Rattle.spx_core.specs.Types.{is_between, is_chosen}
 
 -- no alternatives are as one for no value, which does nothing
 abbrev pub alternatives_in : List CoreAlternative → Alternatives
