@@ -5,8 +5,7 @@ use Rattle.spx_core.specs.declared.entity.TypeId.{TypeId}
 use Rattle.spx_core.specs.declared.expression.CoreExpr.{CoreExpr}
 use Rattle.spx_core.specs.declared.rule.ExprType.{ExprType}
 use Rattle.spx_core.specs.declared.rule.ExprType.TheVariants.{Universal, Of}
-use Rattle.spx_core.specs.Judged.{Judged, ◌>>=◌, judged}
-use Rattle.spx_core.specs.Judged.{static_at}
+use Rattle.spx_core.specs.Judged.{Judged, ◌>>=◌, judged, static_at}
 
 -- what is judged, by its value
 abbrev pub static : CoreExpr → Judged ℤ

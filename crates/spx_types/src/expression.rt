@@ -1,9 +1,9 @@
 // What expressions are, or the first rule that is broken in them (Ada 95 RM 4.4, 4.5, 4.9).
 ghost use Rattle.std.specs.Prelude.{◌≡◌};
 ghost use Rattle.spx_core.specs.Judged as rules;
-ghost use Rattle.spx_core.specs.Judged.{static_at};
 ghost use Rattle.spx_types.specs.TypeIds.{base_id, static, type_id};
 
+use crate::aggregates::composed;
 use crate::attributes::{array_attribute, attribute};
 use crate::functions::{application, mapped};
 use crate::membership::{member_of_range, member_of_type, ordered_type};
@@ -41,7 +41,7 @@ pub fn condition(operand: Typing) -> Result<(), Breach>
 
 /// The value of what is static, which is needed at the place.
 pub fn static_at(place: Place, value: Option<i128>) -> Result<i128, Breach>
-    ensures { result ≡ static_at place value }
+    ensures { result ≡ rules.static_at place value }
 {
     value.ok_or(Breach {
         rule: RuleName::N11,
@@ -136,6 +136,9 @@ pub fn judge(expr: &CoreExpr) -> Result<Typing, Breach>
         }
         CoreExpr::ArrayAttribute(prefix, designator, ends) => {
             array_attribute(*ends.get(), designator, judge(prefix.get())?)
+        }
+        CoreExpr::Aggregate(name, composition, parts) => {
+            composed(parts.as_slice(), name, composition.get())
         }
         CoreExpr::Faulty(faulty) => Err(breach_of(faulty.get())),
     }

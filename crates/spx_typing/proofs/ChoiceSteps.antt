@@ -1,12 +1,10 @@
 -- The alternatives of a `case`, one after another.
-use Rattle.std.proofs.Common.{◌≡◌, ℕ, ◌+◌, ◌<◌, length, drop, get_or, ℤ, pos, ◌+ℤ◌, ◌≤ℤ◌, Bool, true, false, not, ◌||◌, ◌&&◌, List, [], ◌∷◌, ◌++◌, map, Option, None, Some, is_none, is_some, Ok, Err, refl, sym, ap, ◌∙◌, append-nil, arith}
+use Rattle.std.proofs.Common.{◌≡◌, ℕ, ◌+◌, ◌<◌, length, drop, get_or, Bool, true, false, ◌||◌, ◌&&◌, List, [], ◌∷◌, ◌++◌, map, Option, None, Some, is_none, is_some, Ok, Err, refl, sym, ap, ◌∙◌, append-nil}
 use Rattle.std.specs.Prelude.{⊤}
-use Rattle.std.specs.List.{list_all, list_any}
+use Rattle.std.specs.List.{flat_map}
 use Rattle.std.proofs.lemmas.List.{drop_more, map-append}
-use Rattle.std.proofs.lemmas.List.Folds.{list_all-append, list_any-append}
 use Rattle.spx_text.specs.declared.place.Place.{Place}
 use Rattle.spx_core.specs.declared.expression.CoreExpr.{CoreExpr}
-use Rattle.spx_core.specs.declared.function.Span.{Span}
 use Rattle.spx_core.specs.declared.rule.RuleName.TheVariants.{N17}
 use Rattle.spx_core.specs.declared.rule.ExprType.{ExprType}
 use Rattle.spx_core.specs.declared.statement.CoreAlternative.{CoreAlternative}
@@ -17,10 +15,10 @@ use Rattle.spx_tree.specs.declared.statement.Closing.{Closing}
 use Rattle.spx_core.specs.Commands.{alternative, command, choices_in, given_by, select, has_others, has_others_last, spans_of}
 use Rattle.spx_core.specs.Judged.{Judged, ◌>>=◌, each, keeps}
 use Rattle.spx_core.specs.Statements.{has_right_choices, selected, judged_alternatives, judged_choice, judged_choices, judged_command}
-use Rattle.spx_core.specs.Types.{are_apart, is_between, overlap}
 use Rattle.spx_core.proofs.Callers.CommandForms.{command-Case}
+use Rattle.spx_types.specs.Spans.{listed_by, spans_by}
 use Rattle.spx_typing.proofs.CaseForms.{front}
-use Rattle.spx_typing.specs.Choices.{alternatives_in, done_in, given, judged_selector, listed_by, next_of, spans_in}
+use Rattle.spx_typing.specs.Choices.{alternatives_in, done_in, given, judged_selector}
 
 each_of_both : {A : Type 0} (f : A → Judged ⊤) (xs ys : List A) → each f (xs ++ ys) ≡ (each f xs >>= λ _. each f ys)
 each_of_both f [] ys = refl
@@ -34,8 +32,14 @@ pub choices_step : (a : CoreAlternative) (rest : List CoreAlternative) → choic
 choices_step a [] = sym (append-nil (listed_by a))
 choices_step a (b ∷ rest) = refl
 
-pub spans_step : (a : CoreAlternative) (rest : List CoreAlternative) → spans_in (a ∷ rest) ≡ spans_of (listed_by a) ++ spans_in rest
+spans_step : (a : CoreAlternative) (rest : List CoreAlternative)
+    → spans_of (choices_in (alternatives_in (a ∷ rest))) ≡ spans_of (listed_by a) ++ spans_of (choices_in (alternatives_in rest))
 spans_step a rest = ap spans_of (choices_step a rest) ∙ map-append (λ (choice : CoreChoice). given_by choice.high choice.span) (listed_by a) (choices_in (alternatives_in rest))
+
+-- the spans of all choices, from each alternative in turn
+pub same_spans : (alternatives : List CoreAlternative) → flat_map spans_by alternatives ≡ spans_of (choices_in (alternatives_in alternatives))
+same_spans [] = refl
+same_spans (a ∷ rest) = ap (λ spans. spans_of (listed_by a) ++ spans) (same_spans rest) ∙ sym (spans_step a rest)
 
 pub choices_judged : (of : ExprType) (a : CoreAlternative) (rest : List CoreAlternative)
     → each (judged_choice of) (choices_in (alternatives_in (a ∷ rest))) ≡ (judged_choices of (given a) >>= λ _. each (judged_choice of) (choices_in (alternatives_in rest)))
@@ -67,23 +71,6 @@ pub last_or_more : (a : CoreAlternative) (rest : List CoreAlternative) → has_o
 last_or_more a [] = refl
 last_or_more a (b ∷ rest) = refl
 
-pub any_in : (p : Span → Bool) (a : CoreAlternative) (rest : List CoreAlternative) → list_any p (spans_in (a ∷ rest)) ≡ (list_any p (spans_of (listed_by a)) || list_any p (spans_in rest))
-any_in p a rest = ap (list_any p) (spans_step a rest) ∙ list_any-append p (spans_of (listed_by a)) (spans_in rest)
-
-pub apart_after : (choice : CoreChoice) (choices : List CoreChoice) (later : List Span)
-    → are_apart (spans_of (choice ∷ choices) ++ later) ≡ (not (list_any (overlap (given_by choice.high choice.span)) (spans_of choices) || list_any (overlap (given_by choice.high choice.span)) later) && are_apart (spans_of choices ++ later))
-apart_after choice choices later = ap (λ b. not b && are_apart (spans_of choices ++ later)) (list_any-append (overlap (given_by choice.high choice.span)) (spans_of choices) later)
-
-pub kept_in : (p : ℤ → Bool) (a : CoreAlternative) (rest : List CoreAlternative)
-    → list_all p (map next_of (spans_in (a ∷ rest))) ≡ (list_all p (map next_of (spans_of (listed_by a))) && list_all p (map next_of (spans_in rest)))
-kept_in p a rest =
-    ap (λ spans. list_all p (map next_of spans)) (spans_step a rest)
-    ∙ ap (list_all p) (map-append next_of (spans_of (listed_by a)) (spans_in rest))
-    ∙ list_all-append p (map next_of (spans_of (listed_by a))) (map next_of (spans_in rest))
-
-pub next_within : (first last n : ℤ) → last ≤ℤ n → is_between first last (n +ℤ pos 1) ≡ false
-next_within first last n past = grind arith
-
 selection_judged : (place : Place) (selector : CoreExpr) (alternatives : List CoreAlternative)
     → judged_command (select place selector (map alternative alternatives)) ≡ (judged_selector place selector alternatives >>= λ of. judged_alternatives of (alternatives_in alternatives))
 selection_judged place selector [] = refl
@@ -114,13 +101,6 @@ module _ (alternatives : List CoreAlternative) (i : ℕ) (a : CoreAlternative) (
 
   last_at : has_others_last (alternatives_in (drop i alternatives)) ≡ (is_last_or a (drop (i + 1) alternatives) && has_others_last (alternatives_in (drop (i + 1) alternatives)))
   last_at = ap (λ rest. has_others_last (alternatives_in rest)) (front alternatives i a within is) ∙ last_or_more a (drop (i + 1) alternatives)
-
-  pub any_at : (p : Span → Bool) → list_any p (spans_in (drop i alternatives)) ≡ (list_any p (spans_of (listed_by a)) || list_any p (spans_in (drop (i + 1) alternatives)))
-  any_at p = ap (λ rest. list_any p (spans_in rest)) (front alternatives i a within is) ∙ any_in p a (drop (i + 1) alternatives)
-
-  pub kept_at : (p : ℤ → Bool)
-      → list_all p (map next_of (spans_in (drop i alternatives))) ≡ (list_all p (map next_of (spans_of (listed_by a))) && list_all p (map next_of (spans_in (drop (i + 1) alternatives))))
-  kept_at p = ap (λ rest. list_all p (map next_of (spans_in rest))) (front alternatives i a within is) ∙ kept_in p a (drop (i + 1) alternatives)
 
   no_last : is_none (given a) ≡ true → i + 1 < length alternatives → is_last_or a (drop (i + 1) alternatives) ≡ false
   no_last others more = ap (is_last_or a) (drop_more alternatives (i + 1) a more) ∙ none (given a) others

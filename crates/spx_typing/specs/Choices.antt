@@ -1,17 +1,15 @@
--- The alternatives of a `case`, from a list; and the values of their choices.
-use Rattle.std.specs.Prelude.{ℤ, pos, ◌+ℤ◌, Bool, not, ◌||◌, List, [], ◌∷◌, map, Option, Some, Ok}
+-- The alternatives of a `case`, from a list.
+use Rattle.std.specs.Prelude.{List, [], ◌∷◌, map, Option, Some, Ok}
 use Rattle.spx_text.specs.declared.place.Place.{Place}
 use Rattle.spx_core.specs.declared.expression.CoreExpr.{CoreExpr}
-use Rattle.spx_core.specs.declared.function.Span.{Span}
 use Rattle.spx_core.specs.declared.rule.ExprType.{ExprType}
 use Rattle.spx_core.specs.declared.rule.ExprType.TheVariants.{Universal}
 use Rattle.spx_core.specs.declared.rule.RuleName.TheVariants.{N17}
 use Rattle.spx_core.specs.declared.statement.CoreAlternative.{CoreAlternative}
 use Rattle.spx_core.specs.declared.statement.CoreChoice.{CoreChoice}
-use Rattle.spx_core.specs.Commands.{Alternatives, Command, Last, Skip, alternative, alternatives_of, choices_in, listed, spans_of}
+use Rattle.spx_core.specs.Commands.{Alternatives, Command, Last, Skip, alternative, alternatives_of}
 use Rattle.spx_core.specs.Judged.{Judged, ◌>>=◌, keeps}
 use Rattle.spx_core.specs.Statements.{has_right_choices, selected}
-use Rattle.spx_core.specs.Types.{is_between, is_chosen}
 
 -- no alternatives are as one for no value, which does nothing
 abbrev pub alternatives_in : List CoreAlternative → Alternatives
@@ -22,25 +20,9 @@ alternatives_in (first ∷ rest) = alternatives_of (alternative first) (map alte
 abbrev pub given : CoreAlternative → Option (List CoreChoice)
 given a = (alternative a).0
 
--- its choices
-abbrev pub listed_by : CoreAlternative → List CoreChoice
-listed_by a = listed (given a)
-
 -- what is done there
 abbrev pub done_in : CoreAlternative → Command
 done_in a = (alternative a).1
-
--- the values of all choices
-abbrev pub spans_in : List CoreAlternative → List Span
-spans_in alternatives = spans_of (choices_in (alternatives_in alternatives))
-
--- the value after the last of a choice
-abbrev pub next_of : Span → ℤ
-next_of span = span.last +ℤ pos 1
-
--- a value is chosen, if it is one of these
-abbrev pub is_kept : Span → List Span → ℤ → Bool
-is_kept values spans n = not (is_between values.first values.last n) || is_chosen n spans
 
 -- the type of a selector, before its alternatives; of none, nothing is asked
 abbrev pub judged_selector : Place → CoreExpr → List CoreAlternative → Judged ExprType

@@ -4,13 +4,13 @@ ghost use Rattle.spx_core.specs.Commands as commands;
 ghost use Rattle.spx_core.specs.Commands.{choices_in};
 ghost use Rattle.spx_core.specs.Judged.{each};
 ghost use Rattle.spx_core.specs.Statements as rules;
-ghost use Rattle.spx_typing.specs.Choices.{alternatives_in, given, judged_selector, listed_by};
+ghost use Rattle.spx_typing.specs.Choices.{alternatives_in, given, judged_selector};
 
 use crate::coverage::are_given_once;
 use crate::extent::extent;
 use spx_core::{Breach, CoreAlternative, CoreChoice, CoreExpr, ExprType, RuleName};
 use spx_text::Place;
-use spx_types::{is_ordered, is_same_type, judge, keeps, lies_in, static_at};
+use spx_types::{is_ordered, is_same_type, judge, keeps, lies_in, listed_by, static_at};
 
 /// The type of a selector, which has to have an order.
 fn selected(selector: &CoreExpr) -> Result<ExprType, Breach>
@@ -46,16 +46,6 @@ pub fn is_for_others(alternative: &CoreAlternative) -> bool
     ensures { result ≡ is_none (given alternative.now) }
 {
     alternative.choices.is_none()
-}
-
-/// The choices of an alternative; `others` lists none.
-pub fn listed_by(alternative: &CoreAlternative) -> &[CoreChoice]
-    ensures { result.now ≡ listed_by alternative.now }
-{
-    match &alternative.choices {
-        Some(choices) => choices.as_slice(),
-        None => &[],
-    }
 }
 
 fn each_choice(of: ExprType, choices: &[CoreChoice]) -> Result<(), Breach>

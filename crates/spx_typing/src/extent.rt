@@ -157,6 +157,7 @@ pub fn extent(expr: &CoreExpr) -> Span
         | CoreExpr::InRange(..)
         | CoreExpr::Element(..)
         | CoreExpr::Selected(..)
+        | CoreExpr::Aggregate(..)
         | CoreExpr::Faulty(_) => own,
     }
 }

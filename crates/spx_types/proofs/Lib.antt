@@ -1,0 +1,4 @@
+mod GivenSpans
+mod OrderLaws
+mod RoleSteps
+mod SpanSteps
