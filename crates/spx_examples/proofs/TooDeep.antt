@@ -51,7 +51,7 @@ no_operator_after more path [] is parts e = absurd cc
 no_operator_after more path (step.Selected selector ∷ steps) is parts e = let kind : k.Plus ≡ k.Dot = second_kind _ _ _ _ _ _ e in absurd cc
 no_operator_after more path (step.Attribute designator ∷ steps) is parts e = let kind : k.Plus ≡ k.Apostrophe = second_kind _ _ _ _ _ _ e in absurd cc
 no_operator_after more path (step.Applied at arguments ∷ steps) is parts e = let kind : k.Plus ≡ k.LeftParenthesis = second_kind _ _ _ _ _ _ e in absurd cc
-no_operator_after more path (step.Qualified at ∷ steps) is parts e = let kind : k.Plus ≡ k.Apostrophe = second_kind _ _ _ _ _ _ e in absurd cc
+no_operator_after more path (step.Qualified at written ∷ steps) is parts e = let kind : k.Plus ≡ k.Apostrophe = second_kind _ _ _ _ _ _ e in absurd cc
 no_operator_after more path (step.Entry ∷ steps) is parts e = let kind : k.Plus ≡ k.Tilde = second_kind _ _ _ _ _ _ e in absurd cc
 
 -- an expression without operators goes on with none

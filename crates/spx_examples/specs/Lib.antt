@@ -39,3 +39,4 @@ pub mod PartNames
 pub mod LinearExamples
 pub mod StepExamples
 pub mod ScriptExamples
+pub mod AggregateExamples

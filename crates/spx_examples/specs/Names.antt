@@ -1,6 +1,7 @@
 -- Names and expressions with them, as they are written and as what they denote.
 use Rattle.std.specs.Prelude.{List, [], ◌∷◌, None}
 use Rattle.spx_text.specs.declared.place.Place.{Place}
+use Rattle.spx_tree.specs.declared.expression.Aggregate.TheVariants as aggregate
 use Rattle.spx_tree.specs.declared.expression.Arguments.TheVariants.{Positional}
 use Rattle.spx_tree.specs.declared.expression.Expr.{Expr, end_of-Expr, more_of-Expr}
 use Rattle.spx_tree.specs.declared.expression.Expr.TheVariants as written_expr
@@ -81,7 +82,7 @@ function name designator at operand = with_part (path_of name (step.Attribute de
 
 -- `name'(operand)`
 abbrev pub qualified : Identifier → Place → Expr → Expr
-qualified name at operand = with_part (path_of name (step.Qualified at ∷ [])) operand
+qualified name at operand = with_part (path_of name (step.Qualified at (aggregate.Positional 1) ∷ [])) operand
 
 -- ---- with what they denote
 

@@ -3,6 +3,7 @@
 //! No other crate stands on this one.
 #![tactic(auto)]
 
+pub mod aggregate_laws;
 pub mod answer_laws;
 pub mod assertion_laws;
 pub mod bad_laws;
