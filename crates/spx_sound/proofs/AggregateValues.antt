@@ -12,7 +12,6 @@ use Rattle.spx_term.specs.declared.term.FieldName.{FieldName}
 use Rattle.spx_term.specs.declared.term.BinaryOp.TheVariants as binary
 use Rattle.spx_term.specs.declared.term.UnaryOp.TheVariants as unary
 use Rattle.spx_term.specs.declared.term.Term.{Term}
-use Rattle.spx_term.specs.declared.term.Term.TheVariants as term
 use Rattle.spx_term.specs.declared.value.Value.{Value}
 use Rattle.spx_term.specs.Values.{Types}
 use Rattle.spx_term.specs.Meaning.{Valuation, value_of, value_of_binary, value_of_unary}
