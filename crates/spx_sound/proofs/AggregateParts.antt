@@ -1,14 +1,12 @@
 -- What is known of each value of an aggregate is known of each slot that it goes to (Ada 95 RM 4.3).
-use Rattle.std.proofs.Common.{◌≡◌, ◌<◌, ℕ, zero, suc, ℤ, pos, ◌-ℤ◌, Bool, true, false, ◌&&◌, ◌||◌, ◌==◌, if◌then◌else◌, int_le, int_lt, List, [], ◌∷◌, ◌++◌, map, length, Option, Some, None, refl, sym, ap, ap₂, ◌∙◌, subst, arith}
+use Rattle.std.proofs.Common.{◌≡◌, ◌<◌, ℕ, zero, suc, ℤ, pos, ◌-ℤ◌, Bool, true, false, ◌&&◌, ◌||◌, if◌then◌else◌, int_le, int_lt, List, [], ◌∷◌, ◌++◌, map, length, Option, Some, refl, sym, ap, ap₂, ◌∙◌, subst, arith}
 use Rattle.std.specs.Prelude.{⊤, slice_get, option_map}
 use Rattle.std.specs.List.{AllByRecursion, flat_map, cons_option}
 use Rattle.std.proofs.lemmas.Bool.{and_parts, eq-eqb}
 use Rattle.std.proofs.lemmas.Int.{ints}
 use Rattle.std.proofs.lemmas.List.Folds.{list_all-append}
-use Rattle.spx_core.specs.declared.aggregate.Components.{Components}
-use Rattle.spx_core.specs.declared.aggregate.Components.TheVariants.{Elements, Fields}
+use Rattle.spx_core.specs.declared.aggregate.Components.TheVariants.{Fields}
 use Rattle.spx_core.specs.declared.aggregate.Composition.{Composition}
-use Rattle.spx_core.specs.declared.aggregate.Given.{Given}
 use Rattle.spx_core.specs.declared.aggregate.Given.TheVariants as given
 use Rattle.spx_core.specs.declared.aggregate.Role.{Role}
 use Rattle.spx_core.specs.declared.aggregate.Role.TheVariants as role
@@ -22,7 +20,7 @@ use Rattle.spx_core.specs.declared.program.TypeForm.{TypeForm}
 use Rattle.spx_core.specs.declared.program.TypeForm.TheVariants.{Scalar, Array, Record}
 use Rattle.spx_core.specs.declared.rule.ExprType.TheVariants.{Of}
 use Rattle.spx_core.specs.declared.rule.Typing.{Typing}
-use Rattle.spx_core.specs.Aggregates.{all_components, all_given, are_given_once, given_by, is_complete, lie_within, span_at, spans_given}
+use Rattle.spx_core.specs.Aggregates.{all_components, all_given, are_given_once, is_complete, lie_within, span_at, spans_given}
 use Rattle.spx_core.specs.Parts.{HasComponentsOf, IsOfArray, IsOfRecord, field_of_form}
 use Rattle.spx_core.specs.ResolvedAggregates.{are_of_one, common_type, in_both, types_at}
 use Rattle.spx_core.specs.Types.{is_of, same_class}
@@ -136,7 +134,7 @@ mapped_values P f (role.Value g of one ∷ roles) (x ∷ xs) all = (all.0, all.1
 mapped_values P f (role.Field field ∷ roles) xs all = mapped_values P f roles xs all
 mapped_values P f (role.NoField place e ∷ roles) xs all = mapped_values P f roles xs all
 
--- so it is where it follows from what breaks no rule
+-- so it is of expressions, where it follows from what is known of each that breaks no rule
 pub typed_values : (P : CoreExpr → Typing → Type 0) (Q : CoreExpr → Type 0) (R : Subtype → CoreExpr → Type 0) → ((of : Subtype) (e : CoreExpr) → Q e → IsTypedAs P of.base e → R of e) → (roles : List Role) (parts : List CoreExpr) → AllByRecursion Q parts → AreParts P roles parts → AreValues R roles parts
 typed_values P Q R take [] parts all typed = tt
 typed_values P Q R take (role.Index base ∷ roles) [] all typed = tt
@@ -146,7 +144,7 @@ typed_values P Q R take (role.Value g of one ∷ roles) (e ∷ parts) all typed 
 typed_values P Q R take (role.Field field ∷ roles) parts all typed = typed_values P Q R take roles parts all typed
 typed_values P Q R take (role.NoField place e ∷ roles) parts all typed = typed_values P Q R take roles parts all typed
 
--- what is known of the fields of a record holds of those that it has
+-- what a value is for lies within all components
 abbrev Inside : Span → Role → Type 0
 Inside all (role.Value g of one) = lie_within all (spans_given g) ≡ true
 Inside all other = ⊤
@@ -178,7 +176,7 @@ module _ (types : Types) where
   AreSaid id (Record fields) = (k : ℕ) (of : Subtype) → field_of_form k (Record fields) ≡ Some of → SaidOf types (field_shape (types id) k) (component_of of)
 
   module _ {A : Type 0} (P : Subtype → A → Type 0) (Q : Option Shape → A → Type 0) (take : (of other : Subtype) (option : Option Shape) (x : A) → IsNarrower of other → SaidOf types option (component_of other) → P of x → Q option x) (id : ℕ) where
-    -- what the components look like take the value
+    -- each component that the value is for takes it
     abbrev Fits : Placed A → Type 0
     Fits (given.Elements spans, x) = Q (element_shape (types id)) x
     Fits (given.Fields positions, x) = AllByRecursion (λ k. Q (field_shape (types id) k) x) positions

@@ -30,7 +30,7 @@ use Rattle.spx_meaning.specs.declared.aggregates.Slot.{Slot}
 use Rattle.spx_meaning.specs.declared.aggregates.Slot.TheVariants as slot
 use Rattle.spx_formula.specs.Aggregates.{begun_term, chain, composed_term, with_slot_term}
 use Rattle.spx_formula.specs.Terms.{sort_of_base, sort_of_class}
-use Rattle.spx_sound.proofs.AggregateParts.{AllFit, AreSaid, AreValues, IsNarrower, SlotFits, all_fit}
+use Rattle.spx_sound.proofs.AggregateParts.{AreSaid, AreValues, IsNarrower, SlotFits, all_fit}
 
 -- ---- sorts of types
 
