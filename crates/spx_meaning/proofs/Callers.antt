@@ -11,3 +11,4 @@ pub mod Entries
 pub mod Scopes
 pub mod Annotations
 pub mod Literals
+pub mod Aggregates
