@@ -1,14 +1,15 @@
 -- Terms of aggregates by their ids.
-use Rattle.std.proofs.Common.{◌≡◌, false, ℕ, ◌+◌, ◌-◌, ◌<◌, ◌≤◌, List, [], ◌∷◌, ◌++◌, length, map, take, drop, get_or, Result, sym, ap, ◌∙◌, subst, arith, drop-cons, suc}
+use Rattle.std.proofs.Common.{◌≡◌, false, ℕ, ◌+◌, ◌-◌, ◌<◌, ◌≤◌, List, [], ◌∷◌, ◌++◌, length, map, take, drop, get_or, Option, option_map, Result, sym, ap, ◌∙◌, subst, arith, drop-cons, suc}
 use Rattle.std.specs.Prelude.{All, IfOk}
-use Rattle.std.proofs.lemmas.List.{get_or-map, map-append, take_more}
+use Rattle.std.proofs.lemmas.List.{get_or-map, length-map, map-append, take_more}
 use Rattle.spx_core.specs.declared.aggregate.Composition.{Composition}
 use Rattle.spx_core.specs.declared.expression.CoreExpr.{CoreExpr}
 use Rattle.spx_term.specs.declared.term.Term.{Term}
 use Rattle.spx_term.specs.declared.term.Term.TheVariants.{Truth}
-use Rattle.spx_meaning.specs.Aggregates.{placed}
+use Rattle.spx_meaning.specs.Aggregates.{in_order, others_in, placed, slots}
+use Rattle.spx_meaning.proofs.Callers.Aggregates.{in_order_at, numbered, others_at}
 use Rattle.spx_formula.specs.Added.{AddsAll, part_at, part_in_slot}
-use Rattle.spx_formula.specs.Aggregates.{chain, composed_term, with_slot_term}
+use Rattle.spx_formula.specs.Aggregates.{begun_term, chain, composed_term, with_slot_term}
 use Rattle.spx_meaning.specs.declared.aggregates.Slot.{Slot}
 use Rattle.spx_core.specs.declared.entity.TypeId.{TypeId}
 use Rattle.spx_arena.specs.declared.terms.TermId.{TermId}
@@ -69,5 +70,18 @@ chain_goes_on {old} {mid} {new} {whole} {id} of parts begun slots k d are within
     adds_along a
     ((λ n. with_slot_term of.0 s.0 (here n) (so_far.made.tree n)) ∙ ap (λ (left : List (Slot × ℕ)). chain of.0 (map (part_in_slot (trees_at old parts)) left) (tree_at old begun)) (left_of slots k d some most)) in
     record { grown = grows_twice so_far.grown one.grown; made = one.made }
+
+-- ---- the whole
+pub made_chain : {E : Type 0} (r : Result TermId E) {old mid : List Term} (new : List Term) {begun : TermId} {others : Option ℕ} {sorted : List (Slot × ℕ)} (c : Composition) (parts : List TermId) → AreIds (length old) parts
+    → others ≡ others_in (numbered c.roles (length parts)) → sorted ≡ in_order (slots (numbered c.roles (length parts))) → Adds old mid begun (begun_term c.of.0 (option_map (part_at (trees_at old parts)) others))
+    → IfOk r (λ id. Adds mid new id (chain c.of.0 (map (part_in_slot (trees_at mid parts)) sorted) (tree_at mid begun))) → IfOk r (λ id. Adds old new id (composed_term c (placed c.roles (trees_at old parts))))
+made_chain r {old} {mid} new {begun} {others} {sorted} c parts are is_others is_sorted a made =
+    let trees = trees_at old parts in
+    let many : length parts ≡ length trees = sym (length-map parts (tree_at old)) in
+    let first : tree_at mid begun ≡ begun_term c.of.0 (others_in (placed c.roles trees)) =
+    a.made.tree ∙ ap (λ o. begun_term c.of.0 (option_map (part_at trees) o)) (is_others ∙ ap (λ n. others_in (numbered c.roles n)) many) ∙ ap (begun_term c.of.0) (sym (others_at trees (Truth false) c.roles)) in
+    let values : map (part_in_slot (trees_at mid parts)) sorted ≡ in_order (slots (placed c.roles trees)) =
+    (λ i. map (part_in_slot (kept_ids a.grown parts are i)) ((is_sorted ∙ ap (λ n. in_order (slots (numbered c.roles n))) many) i)) ∙ sym (in_order_at trees (Truth false) c.roles) in
+    made_after r new (composed_term c (placed c.roles trees)) a.grown made (λ i. chain c.of.0 (values i) (first i))
 
 pub ruleset part_laws = (id_within, part_within, part_is)

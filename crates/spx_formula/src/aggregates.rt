@@ -10,7 +10,7 @@ ghost use Rattle.spx_formula.specs.Added.{part_at, part_in_slot};
 use crate::parts::bound;
 use spx_arena::{Node, TermId, Terms};
 use spx_core::{Composition, TypeId};
-use spx_meaning::Slot;
+use spx_meaning::{Slot, in_order, others_of, slots_of};
 use spx_term::{BinaryOp, FieldName, UnaryOp};
 use std::alloc::{AllocError, Global};
 
@@ -85,5 +85,10 @@ pub fn composed_id(
     requires { AreIds (length terms.old) parts.now }
     ensures { IfOk result (λ id. Adds terms.old terms.new id (composed_term composition.now (placed composition.now.roles (trees_at terms.old parts.now)))) }
 {
-    unreachable!()
+    let of = composition.of;
+    let others = others_of(composition, parts.len());
+    let begun = begun_id(terms, of, others, parts)?;
+    let slots = slots_of(alloc, composition, parts.len())?;
+    let sorted = in_order(alloc, slots.as_slice())?;
+    chain_id(terms, of, sorted.as_slice(), parts, begun)
 }
