@@ -129,7 +129,8 @@ pub fn member_id(
     }
 }
 
-/// The value of a static expression. No aggregate is one, so it is not judged: each level of nested ones would judge all below it.
+/// The value of a static expression. An aggregate has none and is not judged, since each level of nested ones would judge all
+/// levels below it.
 fn static_value(expr: &CoreExpr) -> Option<Scalar>
     ensures { result ≡ literal expr.now }
 {
