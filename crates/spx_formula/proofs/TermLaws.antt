@@ -29,7 +29,7 @@ module _ {E : Type 0} (r : Result TermId E) where
   pub made_along : (old new : List Term) {s : Term} (t : Term) → IfOk r (λ id. Adds old new id s) → s ≡ t → IfOk r (λ id. Adds old new id t)
   made_along old new t m e = IfOk-weaker r _ _ (λ id a. adds_along a e) m
 
-  made_after : {old mid : List Term} (new : List Term) {s : Term} (t : Term) → Grows old mid → IfOk r (λ id. Adds mid new id s) → s ≡ t → IfOk r (λ id. Adds old new id t)
+  pub made_after : {old mid : List Term} (new : List Term) {s : Term} (t : Term) → Grows old mid → IfOk r (λ id. Adds mid new id s) → s ≡ t → IfOk r (λ id. Adds old new id t)
   made_after new t g m e = IfOk-weaker r _ _ (λ id a. record { grown = grows_twice g a.grown; made = (adds_along a e).made }) m
 
   -- an operation on one operand

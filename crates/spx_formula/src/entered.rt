@@ -1,5 +1,6 @@
 // What names stand for, and names of values on entry.
 ghost use Rattle.std.specs.Prelude.{◌≡◌, IfOk};
+ghost use Rattle.std.specs.List.{list_all};
 ghost use Rattle.spx_core.specs.Uses.{variable_of};
 ghost use Rattle.spx_formula.specs.EntryNames.{IsInterfaceOf, at_tilde, entry_name, is_fixed_by, present_name, stays, stays_if};
 
@@ -88,6 +89,7 @@ pub fn present_name(program: &Program, entered: &Entered, var: VarId) -> Name
 }
 
 /// Whether all that an expression reads has one value all along, so that the expression stands for its value.
+#[cycle(is_fixed)]
 pub fn is_fixed(interface: &Interface, expr: &CoreExpr) -> bool
     ensures { result ≡ is_fixed_by interface.now expr.now }
 {
@@ -114,6 +116,20 @@ pub fn is_fixed(interface: &Interface, expr: &CoreExpr) -> bool
         }
         CoreExpr::Selected(prefix, _, _) => is_fixed(interface, prefix.get()),
         CoreExpr::ArrayAttribute(_, _, _) => true,
+        CoreExpr::Aggregate(_, _, parts) => are_fixed(interface, parts.as_slice()),
         CoreExpr::Faulty(_) => true,
     }
+}
+
+/// Whether each of these expressions stands for its value.
+#[cycle(is_fixed)]
+fn are_fixed(interface: &Interface, parts: &[CoreExpr]) -> bool
+    ensures { result ≡ list_all (is_fixed_by interface.now) parts.now }
+{
+    for part in parts {
+        if !is_fixed(interface, part) {
+            return false;
+        }
+    }
+    true
 }

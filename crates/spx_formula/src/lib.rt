@@ -3,7 +3,7 @@
 //! A layer above may rely on these calls. `term_id` makes the term of an expression, where its names stand for values now or on entry (`Entered`), and
 //! `is_fixed` says whether a value is the same all along. `in_range`, `in_type`, `range_goal`, `one_goal` and `guarded` make what a check asks
 //! to be shown, and `facts_of_all` what is known in each alternative of a `case`. `element_id` and `field_id` make the
-//! terms of parts, `end_id` that of an attribute of an array, and `with_target_id` that of a variable with another part. `own_cut` finds the `assert` that cuts a loop. Each adds terms and changes
+//! terms of parts, `composed_id` that of an aggregate, `end_id` that of an attribute of an array, and `with_target_id` that of a variable with another part. `own_cut` finds the `assert` that cuts a loop. Each adds terms and changes
 //! none, and each gives exactly what its definition says.
 #![tactic(auto)]
 

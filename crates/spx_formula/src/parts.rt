@@ -13,9 +13,9 @@ use spx_tree::Identifier;
 use spx_types::attribute_of;
 use std::alloc::AllocError;
 
-/// A bound of a type, as terms hold it. The bounds of a declared type have at most 64 bits (rule N13). With any other one the
-/// work ends as where memory runs out.
-fn bound(number: i128) -> Result<i64, AllocError>
+/// A bound of a type or of the indexes of a slot, as terms hold it. The bounds of a declared type have at most 64 bits (rule N13).
+/// With any other one the work ends as where memory runs out.
+pub fn bound(number: i128) -> Result<i64, AllocError>
     ensures { IfOk result (λ bound. bound ≡ number) }
 {
     let Ok(bound) = i64::try_from(number) else {

@@ -5,6 +5,7 @@ ghost use Rattle.spx_core.specs.Uses.{variable_of};
 ghost use Rattle.spx_core.specs.Judged.{application};
 ghost use Rattle.spx_term.specs.declared.term.Term.TheVariants as term;
 ghost use Rattle.spx_term.specs.declared.term.TermPrefix.TheVariants.{Not};
+ghost use Rattle.spx_meaning.specs.Literals.{literal};
 ghost use Rattle.spx_formula.specs.Terms.{between, member_term, moved_term, named, signed_term};
 ghost use Rattle.spx_arena.specs.Sharing.{tree_at, Adds};
 ghost use Rattle.spx_formula.specs.Functions.{shift_in};
@@ -17,7 +18,7 @@ use spx_arena::{Node, TermId, Terms};
 use spx_core::{CoreExpr, CoreFunction, Entity, Program, Shift, variable_of};
 use spx_meaning::term_op;
 use spx_static::{literal, subtype_of};
-use spx_term::{TermOp, TermPrefix};
+use spx_term::{Scalar, TermOp, TermPrefix};
 use spx_tree::{MemberOp, PrefixOp};
 use spx_types::application;
 use sqlite_items::Items;
@@ -128,6 +129,17 @@ pub fn member_id(
     }
 }
 
+/// The value of a static expression. An aggregate has none and is not judged, since each level of nested ones would judge all
+/// levels below it.
+fn static_value(expr: &CoreExpr) -> Option<Scalar>
+    ensures { result ≡ literal expr.now }
+{
+    match expr {
+        CoreExpr::Aggregate(_, _, _) => None,
+        _ => literal(expr),
+    }
+}
+
 /// The id of the term of an expression, where its names stand so. A static one stands as its value.
 #[cycle(term_id)]
 pub fn term_id(
@@ -139,7 +151,7 @@ pub fn term_id(
 ) -> Result<TermId, AllocError>
     ensures { IfOk result (λ id. Adds terms.old terms.new id (meant program.now entered.now expr.now)) }
 {
-    if let Some(value) = literal(expr) {
+    if let Some(value) = static_value(expr) {
         return terms.scalar(value);
     }
     match expr {
