@@ -1,6 +1,7 @@
 -- What resolution finds of a name.
-use Rattle.std.specs.Prelude.{Bool, true, false, if◌then◌else◌, List, [], ◌∷◌, ◌++◌, map, Option, Some, None, option_map}
+use Rattle.std.specs.Prelude.{suc, zero, Bool, true, false, if◌then◌else◌, List, [], ◌∷◌, ◌++◌, map, Option, Some, None, option_map}
 use Rattle.spx_text.specs.declared.place.Place.{Place}
+use Rattle.spx_tree.specs.declared.expression.Aggregate.TheVariants as Aggregate
 use Rattle.spx_tree.specs.declared.expression.NameStep.{NameStep}
 use Rattle.spx_tree.specs.declared.expression.NameStep.TheVariants as step
 use Rattle.spx_tree.specs.declared.expression.Path.{Path}
@@ -58,7 +59,7 @@ plain_value scene root steps = None
 
 -- the function of one operand that steps are
 abbrev pub opened : List NameStep → Option Opening
-opened (step.Qualified place ∷ []) = Some (record { form = form.Qualified; place = place })
+opened (step.Qualified place (Aggregate.Positional (suc zero)) ∷ []) = Some (record { form = form.Qualified; place = place })
 opened (s ∷ []) = option_map (λ (place : Place). record { form = form.Simple; place = place }) (one_argument s)
 opened (step.Attribute designator ∷ s ∷ []) = option_map (λ (place : Place). record { form = form.Attribute designator; place = place }) (one_argument s)
 opened steps = None

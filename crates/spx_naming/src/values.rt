@@ -8,14 +8,15 @@ ghost use Rattle.spx_core.specs.ResolvedExpressions.{array_end, attributed, entr
 ghost use Rattle.spx_core.specs.WrittenExpressions.{erased_expr};
 ghost use Rattle.spx_naming.specs.Found.{answer, applied_value, begins_with_entry, found_along, object_value, opened, other_value, plain_value, root_of, shown};
 
+use crate::name_parts::{Parts, take_first};
 use crate::scene::Scene;
-use crate::steps::{MOST_STEPS, Parts, fault_at, form_in, one_argument, part_step};
+use crate::steps::{MOST_STEPS, fault_at, form_in, one_argument, part_step};
 use spx_core::{
     ArrayEnds, CoreExpr, CoreFunction, CoreName, Entity, FaultyName, FunctionForm, NameFault,
     Subtype, TypeForm, TypeId, TypeRow,
 };
 use spx_text::Place;
-use spx_tree::{Expr, Identifier, Name, NameStep, Path};
+use spx_tree::{Aggregate, Expr, Identifier, Name, NameStep, Path};
 use spx_types::{has_attribute, is_attribute};
 use sqlite_items::{Boxed, Items};
 use std::alloc::{AllocError, Global};
@@ -108,12 +109,12 @@ fn value_at(
     object: Boxed<CoreExpr>,
     id: TypeId,
     steps: &[NameStep],
-    parts: Parts,
+    parts: Parts<'_>,
 ) -> Result<Option<Boxed<CoreExpr>>, AllocError>
     ensures { IfOk result (λ r. r ≡ value_at scene.now object id (form_in scene.now.types id) steps.now parts) }
 {
     let mut parts = parts;
-    let None = parts.take_first() else {
+    let None = take_first(&mut parts) else {
         return Ok(None);
     };
     match (steps, form_in(scene.types(), id)) {
@@ -132,7 +133,7 @@ fn found_at(
     object: Boxed<CoreExpr>,
     of: Subtype,
     steps: &[NameStep],
-    parts: Parts,
+    parts: Parts<'_>,
 ) -> Result<Found, AllocError>
     ensures { IfOk result (λ r. r ≡ found_along scene.now object (ends_at of steps.now parts)) }
 {
@@ -152,7 +153,7 @@ fn found_along(
     of: Subtype,
     steps: &[NameStep],
     first: usize,
-    parts: Parts,
+    parts: Parts<'_>,
 ) -> Result<Found, AllocError>
     ensures { IfOk result (λ r. r ≡ found_along scene.now object (along scene.now.types of (drop first steps.now) parts)) }
 {
@@ -214,7 +215,7 @@ fn value_of_variable(
     denoted: Option<Entity>,
     of: Subtype,
     path: &Path,
-    parts: Parts,
+    parts: Parts<'_>,
 ) -> Result<Found, AllocError>
     ensures { IfOk result (λ r. shown (root_of denoted path.now) path.now parts r ≡ value_of_variable scene.now (root_of denoted path.now) of path.now parts) }
 {
@@ -311,7 +312,7 @@ fn opened(alloc: Global, steps: &[NameStep]) -> Result<Option<Opening>, AllocErr
     ensures { IfOk result (λ r. r ≡ opened steps.now) }
 {
     match steps {
-        [NameStep::Qualified(place)] => {
+        [NameStep::Qualified(place, Aggregate::Positional(1))] => {
             let form = FunctionForm::Qualified;
             Ok(Some(Opening {
                 form,
@@ -361,15 +362,15 @@ fn other_value(
     scene: &Scene<'_>,
     denoted: Option<Entity>,
     path: &Path,
-    parts: Parts,
+    parts: Parts<'_>,
 ) -> Result<Option<Boxed<CoreExpr>>, AllocError>
     ensures { IfOk result (λ r. r ≡ other_value scene.now (root_of denoted path.now) path.now.steps parts) }
 {
     let mut parts = parts;
-    let Some(operand) = parts.take_first() else {
+    let Some(operand) = take_first(&mut parts) else {
         return plain_value(alloc, scene, denoted, path);
     };
-    match parts.take_first() {
+    match take_first(&mut parts) {
         None => applied_value(alloc, denoted, path, operand),
         Some(_) => Ok(None),
     }
@@ -381,6 +382,7 @@ fn fault_of_function(subtype: Subtype, steps: &[NameStep]) -> NameFault
 {
     match steps {
         [NameStep::Applied(_, _)] => NameFault::WrongArguments,
+        [NameStep::Qualified(_, _)] => NameFault::WrongArguments,
         [NameStep::Attribute(designator), NameStep::Applied(_, _)] => {
             if has_attribute(subtype, &designator.text) {
                 NameFault::WrongArguments
@@ -408,7 +410,7 @@ fn other_found(
     scene: &Scene<'_>,
     denoted: Option<Entity>,
     path: &Path,
-    parts: Parts,
+    parts: Parts<'_>,
 ) -> Result<Found, AllocError>
     ensures { IfOk result (λ r. r ≡ answer (fault_of_type denoted path.now.steps) (other_value scene.now (root_of denoted path.now) path.now.steps parts)) }
 {
@@ -425,7 +427,7 @@ fn value_of_other(
     scene: &Scene<'_>,
     denoted: Option<Entity>,
     path: &Path,
-    parts: Parts,
+    parts: Parts<'_>,
 ) -> Result<Found, AllocError>
     ensures { IfOk result (λ r. shown (root_of denoted path.now) path.now parts r ≡ value_of_other scene.now (root_of denoted path.now) path.now parts) }
 {
@@ -438,7 +440,7 @@ fn found_of(
     scene: &Scene<'_>,
     denoted: Option<Entity>,
     path: &Path,
-    parts: Parts,
+    parts: Parts<'_>,
 ) -> Result<Found, AllocError>
     ensures { IfOk result (λ r. shown (root_of denoted path.now) path.now parts r ≡ value_of_path scene.now (root_of denoted path.now) path.now parts) }
 {
@@ -457,7 +459,7 @@ pub fn value_of_path(
     denoted: Option<Entity>,
     path: &Path,
     written: &[Expr],
-    parts: Parts,
+    parts: Parts<'_>,
 ) -> Result<Boxed<CoreExpr>, AllocError>
     requires { map erased_expr parts ≡ written.now }
     ensures { IfOk result (λ r. r ≡ value_of_path scene.now (root_of denoted path.now) path.now parts) }
