@@ -34,7 +34,7 @@ then_read None go = None
 then_read (Some x) go = go x.0 x.1
 
 -- one before others
-abbrev pub and_more : {A : Type 0} → A → Option (List A × List CoreExpr) → Option (List A × List CoreExpr)
+abbrev pub and_more : {A B : Type 0} → A → Option (List A × B) → Option (List A × B)
 and_more x None = None
 and_more x (Some more) = Some (x ∷ more.0, more.1)
 
@@ -93,6 +93,11 @@ described known = record { roles = map (λ (x : Role × Option CoreExpr). x.0) k
 -- with this after it
 abbrev pub followed_by : Described → Known → Described
 followed_by d known = record { roles = d.roles ++ (described known).roles; parts = d.parts ++ (described known).parts }
+
+-- a value of what is read
+abbrev pub mapped : {A B : Type 0} → (A → B) → Option (A × List CoreExpr) → Option (B × List CoreExpr)
+mapped value None = None
+mapped value (Some x) = Some (value x.0, x.1)
 
 -- what is made of what is read, after what was made before
 abbrev pub continued : {A S : Type 0} → (S → A → S) → S → Option (A × List CoreExpr) → Option (List CoreExpr × S)

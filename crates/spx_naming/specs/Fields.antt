@@ -1,5 +1,5 @@
 -- Choices of fields.
-use Rattle.std.specs.Prelude.{ℕ, not, List, [], ◌∷◌, ◌++◌, map, filter, length, Option, Some, None, option_map}
+use Rattle.std.specs.Prelude.{ℕ, not, if◌then◌else◌, List, [], ◌∷◌, ◌++◌, map, filter, length, Option, Some, None, option_map}
 use Rattle.std.specs.List.{cons_option, flat_map, range_with_len}
 use Rattle.spx_core.specs.declared.aggregate.Association.{Association}
 use Rattle.spx_core.specs.declared.aggregate.Choice.{Choice}
@@ -30,15 +30,6 @@ with_choices fields c choices = record { roles = c.roles ++ roles_of (flat_map (
 abbrev pub named_value : List Field → Association → NamedValue
 named_value fields a = record { roles = roles_of (flat_map (field_bounds fields) (listed_choices a.choices)); positions = option_map (positions_in fields) a.choices; value = a.value }
 
--- the values that are read
-abbrev pub naming : List Field → Option (Association × List CoreExpr) → Option (NamedValue × List CoreExpr)
-naming fields None = None
-naming fields (Some x) = Some (named_value fields x.0, x.1)
-
-abbrev pub naming_all : List Field → Option (List Association × List CoreExpr) → Option (List NamedValue × List CoreExpr)
-naming_all fields None = None
-naming_all fields (Some x) = Some (map (named_value fields) x.0, x.1)
-
 abbrev pub listed_positions : Option (List ℕ) → List ℕ
 listed_positions None = []
 listed_positions (Some positions) = positions
@@ -50,6 +41,10 @@ chosen_in values = flat_map (λ (v : NamedValue). listed_positions v.positions) 
 -- the positions that no choice has
 abbrev pub left_over : ℕ → List ℕ → List ℕ
 left_over count chosen = filter (λ k. not (is_among k chosen)) (range_with_len 0 count)
+
+-- this one, if no choice has it
+abbrev pub if_left : ℕ → List ℕ → List ℕ
+if_left k chosen = if is_among k chosen then [] else k ∷ []
 
 abbrev pub positions_or_others : ℕ → List ℕ → Option (List ℕ) → List ℕ
 positions_or_others count chosen None = left_over count chosen

@@ -1,9 +1,9 @@
 // The values of an aggregate of an array type (Ada 95 RM 4.3.3).
-ghost use Rattle.std.specs.Prelude.{◌≡◌, [], ◌∷◌, IfOk, OnOk, map};
+ghost use Rattle.std.specs.Prelude.{◌≡◌, [], ◌∷◌, pos, ◌+ℤ◌, IfOk, OnOk, map};
 ghost use Rattle.std.specs.List.{flat_map};
 ghost use Rattle.spx_tree.specs.Written.{aggregate_takes};
 ghost use Rattle.spx_core.specs.ResolvedAggregates.{array_parts, element_value, from_index, in_array, index_bounds};
-ghost use Rattle.spx_naming.specs.Arrays.{chosen};
+ghost use Rattle.spx_naming.specs.Arrays.{chosen, given_at};
 ghost use Rattle.spx_naming.specs.Choices.{adding, association_of, associations_of, choice_of, choices_of, describing, followed_by, giving_and_adding, if_added, if_read, if_read_and_added, made_of_first, range_of, single_of, value_of, values_of};
 
 use crate::described::Described;
@@ -160,24 +160,35 @@ fn add_named(
     Ok(true)
 }
 
-/// So many values, one after another from an index on; whether there are as many. A type has no index past 128 bits.
+/// The element at this position, counted from 0. A type has no index past 128 bits.
+fn given_at(alloc: Global, index: Subtype, position: usize) -> Result<Given, AllocError>
+    ensures { IfOk result (λ r. r ≡ given_at (index.first +ℤ pos position)) }
+{
+    let Some(at) = index.first.checked_add(position as i128) else {
+        return Err(AllocError);
+    };
+    let mut spans = Items::new(alloc);
+    spans.push(Span {
+        first: at,
+        last: at,
+    })?;
+    Ok(Given::Elements(spans))
+}
+
+/// The next expressions as the values of elements, one after another; whether there are so many.
 fn add_positional(
     alloc: Global,
-    first: i128,
+    index: Subtype,
     element: Subtype,
     count: usize,
     parts: &mut Parts<'_>,
     made: &mut Described,
 ) -> Result<bool, AllocError>
-    ensures { IfOk result (λ are_there. if_added are_there parts.new made.new ≡ adding (from_index first element) made.old (values_of count parts.old)) }
+    ensures { IfOk result (λ are_there. if_added are_there parts.new made.new ≡ adding (from_index index.first element) made.old (values_of count parts.old)) }
 {
     for position in 0..count {
-        let Some(at) = first.checked_add(position as i128) else {
-            return Err(AllocError);
-        };
-        let mut spans = Items::new(alloc);
-        spans.push(Span { first: at, last: at })?;
-        if !add_value(alloc, element, Given::Elements(spans), parts, made)? {
+        let given = given_at(alloc, index, position)?;
+        if !add_value(alloc, element, given, parts, made)? {
             return Ok(false);
         }
     }
@@ -197,7 +208,7 @@ fn add_written(
 {
     match written {
         Aggregate::Positional(count) => {
-            add_positional(alloc, index.first, element, *count, parts, made)
+            add_positional(alloc, index, element, *count, parts, made)
         }
         Aggregate::Named(lists) => {
             add_named(alloc, index, element, lists.as_slice(), parts, made)

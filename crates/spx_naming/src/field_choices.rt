@@ -1,12 +1,12 @@
 // Choices of the fields of a record aggregate (Ada 95 RM 4.3.1).
-ghost use Rattle.std.specs.Prelude.{◌≡◌, [], ◌++◌, IfOk, List, OnOk, None, option_map};
+ghost use Rattle.std.specs.Prelude.{◌≡◌, [], ◌++◌, IfOk, List, OnOk, None, map, option_map};
 ghost use Rattle.std.specs.List.{cons_option};
 ghost use Rattle.spx_tree.specs.declared.expression.ChoiceList.TheVariants.{Choices};
 ghost use Rattle.spx_core.specs.declared.program.Field.{Field};
 ghost use Rattle.spx_core.specs.declared.expression.CoreExpr.{out-CoreExpr};
 ghost use Rattle.spx_core.specs.ResolvedAggregates.{field_at, field_role, position_of};
-ghost use Rattle.spx_naming.specs.Choices.{association_of, associations_of, choice_of, choices_of, continued, if_added, if_read, range_of, single_of, with_value};
-ghost use Rattle.spx_naming.specs.Fields.{chosen_in, listed_positions, naming, naming_all, with_choice, with_choices};
+ghost use Rattle.spx_naming.specs.Choices.{association_of, associations_of, choice_of, choices_of, continued, if_added, if_read, mapped, range_of, single_of, with_value};
+ghost use Rattle.spx_naming.specs.Fields.{chosen_in, listed_positions, named_value, with_choice, with_choices};
 
 use crate::name_parts::{NamePart, Parts, take_first};
 use spx_core::{CoreExpr, Field, Role};
@@ -152,7 +152,7 @@ fn add_choices(
 
 /// The value for all fields that no choice names.
 fn others_value(alloc: Global, parts: &mut Parts<'_>) -> Option<NamedValue>
-    ensures { (fields : List Field) → if_read result parts.new ≡ naming fields (with_value None parts.old) }
+    ensures { (fields : List Field) → if_read result parts.new ≡ mapped (named_value fields) (with_value None parts.old) }
 {
     let value = take_first(parts)?;
     Some(NamedValue {
@@ -169,7 +169,7 @@ fn listed_value(
     forms: &[ChoiceForm],
     parts: &mut Parts<'_>,
 ) -> Result<Option<NamedValue>, AllocError>
-    ensures { IfOk result (λ r. if_read r parts.new ≡ naming fields.now (association_of (Choices forms.now) parts.old)) }
+    ensures { IfOk result (λ r. if_read r parts.new ≡ mapped (named_value fields.now) (association_of (Choices forms.now) parts.old)) }
 {
     let mut read = FieldChoices {
         roles: Items::new(alloc),
@@ -196,7 +196,7 @@ fn named_value(
     list: &ChoiceList,
     parts: &mut Parts<'_>,
 ) -> Result<Option<NamedValue>, AllocError>
-    ensures { IfOk result (λ r. if_read r parts.new ≡ naming fields.now (association_of list.now parts.old)) }
+    ensures { IfOk result (λ r. if_read r parts.new ≡ mapped (named_value fields.now) (association_of list.now parts.old)) }
 {
     match list {
         ChoiceList::Others => Ok(others_value(alloc, parts)),
@@ -211,7 +211,7 @@ pub fn named_values(
     lists: &[ChoiceList],
     parts: &mut Parts<'_>,
 ) -> Result<Option<Vec<NamedValue>>, AllocError>
-    ensures { IfOk result (λ r. if_read (option_map (λ values. values.items) r) parts.new ≡ naming_all fields.now (associations_of lists.now parts.old)) }
+    ensures { IfOk result (λ r. if_read (option_map (λ values. values.items) r) parts.new ≡ mapped (map (named_value fields.now)) (associations_of lists.now parts.old)) }
 {
     let mut values = Vec::new(alloc);
     for list in lists {

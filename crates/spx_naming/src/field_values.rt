@@ -1,11 +1,11 @@
 // The values of fields of a record aggregate (Ada 95 RM 4.3.1).
-ghost use Rattle.std.specs.Prelude.{◌≡◌, [], ◌∷◌, IfOk, OnOk, length};
+ghost use Rattle.std.specs.Prelude.{◌≡◌, [], ◌∷◌, ◌++◌, IfOk, OnOk, if◌then◌else◌, int_lt, length};
 ghost use Rattle.std.specs.List.{list_all};
 ghost use Rattle.spx_core.specs.declared.rule.ExprType.TheVariants.{Of};
 ghost use Rattle.spx_core.specs.Types.{is_of};
 ghost use Rattle.spx_core.specs.ResolvedAggregates.{are_of_one, common_type, field_value, in_both, is_among, types_at};
 ghost use Rattle.spx_naming.specs.Choices.{followed_by};
-ghost use Rattle.spx_naming.specs.Fields.{left_over, positions_or_others, with_named};
+ghost use Rattle.spx_naming.specs.Fields.{if_left, left_over, positions_or_others, with_named};
 
 use crate::described::Described;
 use crate::field_choices::NamedValue;
@@ -15,13 +15,25 @@ use spx_types::is_of;
 use sqlite_items::{Boxed, Items, at};
 use std::alloc::{AllocError, Global};
 
+fn larger(a: i128, b: i128) -> i128
+    ensures { result ≡ (if int_lt a b then b else a) }
+{
+    if a < b { b } else { a }
+}
+
+fn smaller(a: i128, b: i128) -> i128
+    ensures { result ≡ (if int_lt b a then b else a) }
+{
+    if b < a { b } else { a }
+}
+
 /// The values that are in both types.
 fn in_both(a: Subtype, b: Subtype) -> Subtype
     ensures { result ≡ in_both a b }
 {
     Subtype {
-        first: a.first.max(b.first),
-        last: a.last.min(b.last),
+        first: larger(a.first, b.first),
+        last: smaller(a.last, b.last),
         ..a
     }
 }
@@ -104,15 +116,28 @@ fn is_among(position: usize, positions: &[usize]) -> bool
     positions.contains(&position)
 }
 
+/// Adds a position that no choice has.
+fn add_if_left(
+    left: &mut Items<usize>,
+    position: usize,
+    chosen: &[usize],
+) -> Result<(), AllocError>
+    ensures { OnOk result (left.new ≡ left.old ++ if_left position chosen.now) }
+{
+    if is_among(position, chosen) {
+        Ok(())
+    } else {
+        left.push(position)
+    }
+}
+
 /// The positions that no choice has.
 fn left_over(alloc: Global, count: usize, chosen: &[usize]) -> Result<Items<usize>, AllocError>
     ensures { IfOk result (λ r. r ≡ left_over count chosen.now) }
 {
     let mut left = Items::new(alloc);
     for position in 0..count {
-        if !is_among(position, chosen) {
-            left.push(position)?;
-        }
+        add_if_left(&mut left, position, chosen)?;
     }
     Ok(left)
 }
