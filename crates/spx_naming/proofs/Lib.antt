@@ -6,6 +6,7 @@ pub mod Walks
 pub mod Reading
 pub mod ArrayLaws
 pub mod RecordLaws
+pub mod AggregateLaws
 pub mod StatementForms
 pub mod Declarations
 pub mod Subprograms

@@ -44,33 +44,6 @@ abbrev pub after_all : {B C : Type 0} → List B → Option (List B × C) → Op
 after_all before None = None
 after_all before (Some x) = Some (before ++ x.0, x.1)
 
-pub after_none : {B C : Type 0} (o : Option (List B × C)) → after_all [] o ≡ o
-after_none None = refl
-after_none (Some x) = refl
-
-pub after_one : {B C : Type 0} (before : List B) (v : B) (o : Option (List B × C)) → after_all before (and_more v o) ≡ after_all (before ++ v ∷ []) o
-after_one before v None = refl
-after_one before v (Some x) = ap (λ ys. Some (ys, x.1)) (sym (append_assoc before (v ∷ []) x.0))
-
--- values of what is read
-module _ {A B : Type 0} (value : A → B) where
-  mapped_more : (x : A) (o : Reads (List A)) → mapped (map value) (and_more x o) ≡ and_more (value x) (mapped (map value) o)
-  mapped_more x None = refl
-  mapped_more x (Some y) = refl
-
-  pub one_value : (v : B) (left : List CoreExpr) (o : Reads A) (rest : List CoreExpr → Reads (List A)) → if_read (Some v) left ≡ mapped value o
-      → mapped (map value) (one_and_rest o rest) ≡ and_more v (mapped (map value) (rest left))
-  one_value v left None rest is = absurd cc
-  one_value v left (Some x) rest is =
-      let both : ◌≡◌ {A = B × List CoreExpr} (v, left) (value x.0, x.1) = cc in
-      let same : left ≡ x.1 = ap (λ p. p.1) both in
-      let made : v ≡ value x.0 = ap (λ p. p.0) both in
-      mapped_more x.0 (rest x.1) ∙ ap₂ (λ w l. and_more w (mapped (map value) (rest l))) (sym made) (sym same)
-
-  pub no_value : (left : List CoreExpr) (o : Reads A) (rest : List CoreExpr → Reads (List A)) → if_read None left ≡ mapped value o → mapped (map value) (one_and_rest o rest) ≡ None
-  no_value left None rest is = refl
-  no_value left (Some x) rest is = absurd cc
-
 -- what is made of what is read: of the first item by `step`, of the others by `later`
 module _ {A S : Type 0} (step : S → A → S) (steps later : S → List A → S) (law : (s : S) (x : A) (xs : List A) → steps s (x ∷ xs) ≡ later (step s x) xs) where
   added_more : (s : S) (x : A) (o : Reads (List A)) → continued steps s (and_more x o) ≡ continued later (step s x) o
@@ -83,29 +56,6 @@ module _ {A S : Type 0} (step : S → A → S) (steps later : S → List A → S
   one_added s s' left (Some x) rest is =
       let both : ◌≡◌ {A = List CoreExpr × S} (left, s') (x.1, step s x.0) = cc in
       added_more s x.0 (rest x.1) ∙ ap₂ (λ z l. continued later z (rest l)) (sym (ap (λ p. p.1) both)) (sym (ap (λ p. p.0) both))
-
-  pub none_added : (s s' : S) (left : List CoreExpr) (o : Reads A) (rest : List CoreExpr → Reads (List A)) → if_added false left s' ≡ continued step s o → continued steps s (one_and_rest o rest) ≡ None
-  none_added s s' left None rest is = refl
-  none_added s s' left (Some x) rest is = absurd cc
-
-  -- the same with a value
-  module _ {B : Type 0} (value : A → B) where
-    given_more : (s : S) (x : A) (o : Reads (List A)) → giving (map value) steps s (and_more x o) ≡ and_more (value x) (giving (map value) later (step s x) o)
-    given_more s x None = refl
-    given_more s x (Some y) = ap (λ z. Some (value x ∷ map value y.0, (y.1, z))) (law s x y.0)
-
-    pub one_given : (s s' : S) (v : B) (left : List CoreExpr) (o : Reads A) (rest : List CoreExpr → Reads (List A)) → if_read_and_added (Some v) left s' ≡ giving value step s o
-        → giving (map value) steps s (one_and_rest o rest) ≡ and_more v (giving (map value) later s' (rest left))
-    one_given s s' v left None rest is = absurd cc
-    one_given s s' v left (Some x) rest is =
-        let all : ◌≡◌ {A = B × (List CoreExpr × S)} (v, (left, s')) (value x.0, (x.1, step s x.0)) = cc in
-        given_more s x.0 (rest x.1)
-        ∙ ap₂ (λ z l. and_more (value x.0) (giving (map value) later z (rest l))) (sym (ap (λ p. p.1.1) all)) (sym (ap (λ p. p.1.0) all))
-        ∙ ap (λ w. and_more w (giving (map value) later s' (rest left))) (sym (ap (λ p. p.0) all))
-
-    pub none_given : (s s' : S) (left : List CoreExpr) (o : Reads A) (rest : List CoreExpr → Reads (List A)) → if_read_and_added None left s' ≡ giving value step s o → giving (map value) steps s (one_and_rest o rest) ≡ None
-    none_given s s' left None rest is = refl
-    none_given s s' left (Some x) rest is = absurd cc
 
 -- ---- what is made of the first expressions
 

@@ -1,3 +1,4 @@
+pub mod Aggregates
 pub mod Arrays
 pub mod Before
 pub mod Choices

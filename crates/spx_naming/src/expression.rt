@@ -58,7 +58,7 @@ fn resolve_value(
     scope: &Scope<'_>,
 ) -> Result<Boxed<CoreExpr>, AllocError>
     requires { map erased_expr parts ≡ written.now }
-    ensures { IfOk result (λ r. r ≡ resolved_value scene.now (seen scope.now) path.now parts) }
+    ensures { IfOk result (λ r. r ≡ resolved_value scene.now (seen scope.now) path.now parts.entry) }
 {
     let denoted = scope.look_up(&path.root.text);
     value_of_path(alloc, scene, denoted, path, written, parts)

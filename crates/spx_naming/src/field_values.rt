@@ -117,11 +117,7 @@ fn is_among(position: usize, positions: &[usize]) -> bool
 }
 
 /// Adds a position that no choice has.
-fn add_if_left(
-    left: &mut Items<usize>,
-    position: usize,
-    chosen: &[usize],
-) -> Result<(), AllocError>
+fn add_if_left(left: &mut Items<usize>, position: usize, chosen: &[usize]) -> Result<(), AllocError>
     ensures { OnOk result (left.new ≡ left.old ++ if_left position chosen.now) }
 {
     if is_among(position, chosen) {

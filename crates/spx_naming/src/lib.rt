@@ -6,6 +6,7 @@
 //! declared twice is `again`: no rule is judged here.
 #![tactic(auto)]
 
+mod aggregates;
 mod array_values;
 mod changed;
 mod choices;

@@ -22,7 +22,7 @@ enum Way {
 
 /// The way, after which these steps and expressions are left; with any it leads nowhere.
 fn leading(fault: NameFault, way: Items<PartStep>, steps: &[NameStep], parts: Parts<'_>) -> Way
-    ensures { result ≡ leading fault way steps.now parts }
+    ensures { result ≡ leading fault way steps.now parts.entry }
 {
     let mut parts = parts;
     match (steps, take_first(&mut parts)) {
@@ -39,7 +39,7 @@ fn way_at(
     steps: &[NameStep],
     parts: Parts<'_>,
 ) -> Way
-    ensures { result ≡ way_along types.now way (ends_at of steps.now parts) }
+    ensures { result ≡ way_along types.now way (ends_at of steps.now parts.entry) }
 {
     let fault = fault_at(form_in(types, of.base.id), steps);
     leading(fault, way, steps, parts)
@@ -53,7 +53,7 @@ fn way_along(
     steps: &[NameStep],
     parts: Parts<'_>,
 ) -> Result<Way, AllocError>
-    ensures { IfOk result (λ r. r ≡ way_along types.now [] (along types.now of steps.now parts)) }
+    ensures { IfOk result (λ r. r ≡ way_along types.now [] (along types.now of steps.now parts.entry)) }
 {
     let mut way = Items::new(alloc);
     let mut of = of;
@@ -80,7 +80,7 @@ fn way_of(
     path: &Path,
     parts: Parts<'_>,
 ) -> Result<Way, AllocError>
-    ensures { IfOk result (λ r. target_with (root_of denoted path.now) path.now parts r ≡ target_of types.now (root_of denoted path.now) path.now parts) }
+    ensures { IfOk result (λ r. target_with (root_of denoted path.now) path.now parts.entry r ≡ target_of types.now (root_of denoted path.now) path.now parts.entry) }
 {
     let steps = path.steps.as_slice();
     match denoted {
@@ -113,7 +113,7 @@ pub fn target_of(
     parts: Parts<'_>,
 ) -> Result<Boxed<Target>, AllocError>
     requires { map erased_expr parts ≡ written.now }
-    ensures { IfOk result (λ r. r ≡ target_of types.now (root_of denoted path.now) path.now parts) }
+    ensures { IfOk result (λ r. r ≡ target_of types.now (root_of denoted path.now) path.now parts.entry) }
 {
     match way_of(alloc, types, denoted, path, parts)? {
         Way::Leads(way) => target_with(alloc, denoted, path, way, None),

@@ -4,10 +4,11 @@ ghost use Rattle.std.specs.Option.{option_copied};
 ghost use Rattle.spx_core.specs.declared.entity.Entity.TheVariants as entity;
 ghost use Rattle.spx_core.specs.declared.expression.CoreExpr.TheVariants as expr;
 ghost use Rattle.spx_core.specs.NamedParts.{along, ends_at, form_in};
-ghost use Rattle.spx_core.specs.ResolvedExpressions.{array_end, attributed, entry_of, fault_of_type, index_of, value_at, value_of_other, value_of_path, value_of_variable, with_index};
+ghost use Rattle.spx_core.specs.ResolvedExpressions.{array_end, attributed, entry_of, fault_of_type, index_of, value_at, value_of_other, value_of_path, value_of_type, value_of_variable, with_index};
 ghost use Rattle.spx_core.specs.WrittenExpressions.{erased_expr};
 ghost use Rattle.spx_naming.specs.Found.{answer, applied_value, begins_with_entry, found_along, object_value, opened, other_value, plain_value, root_of, shown};
 
+use crate::aggregates::{Qualified, aggregate_with, content_of, has_components, qualified_by};
 use crate::name_parts::{Parts, take_first};
 use crate::scene::Scene;
 use crate::steps::{MOST_STEPS, fault_at, form_in, one_argument, part_step};
@@ -111,7 +112,7 @@ fn value_at(
     steps: &[NameStep],
     parts: Parts<'_>,
 ) -> Result<Option<Boxed<CoreExpr>>, AllocError>
-    ensures { IfOk result (λ r. r ≡ value_at scene.now object id (form_in scene.now.types id) steps.now parts) }
+    ensures { IfOk result (λ r. r ≡ value_at scene.now object id (form_in scene.now.types id) steps.now parts.entry) }
 {
     let mut parts = parts;
     let None = take_first(&mut parts) else {
@@ -135,7 +136,7 @@ fn found_at(
     steps: &[NameStep],
     parts: Parts<'_>,
 ) -> Result<Found, AllocError>
-    ensures { IfOk result (λ r. r ≡ found_along scene.now object (ends_at of steps.now parts)) }
+    ensures { IfOk result (λ r. r ≡ found_along scene.now object (ends_at of steps.now parts.entry)) }
 {
     let id = of.base.id;
     let fault = fault_at(form_in(scene.types(), id), steps);
@@ -155,7 +156,7 @@ fn found_along(
     first: usize,
     parts: Parts<'_>,
 ) -> Result<Found, AllocError>
-    ensures { IfOk result (λ r. r ≡ found_along scene.now object (along scene.now.types of (drop first steps.now) parts)) }
+    ensures { IfOk result (λ r. r ≡ found_along scene.now object (along scene.now.types of (drop first steps.now) parts.entry)) }
 {
     let mut object = object;
     let mut of = of;
@@ -217,7 +218,7 @@ fn value_of_variable(
     path: &Path,
     parts: Parts<'_>,
 ) -> Result<Found, AllocError>
-    ensures { IfOk result (λ r. shown (root_of denoted path.now) path.now parts r ≡ value_of_variable scene.now (root_of denoted path.now) of path.now parts) }
+    ensures { IfOk result (λ r. shown (root_of denoted path.now) path.now parts.entry r ≡ value_of_variable scene.now (root_of denoted path.now) of path.now parts.entry) }
 {
     let steps = path.steps.as_slice();
     let on_entry = begins_with_entry(steps);
@@ -364,7 +365,7 @@ fn other_value(
     path: &Path,
     parts: Parts<'_>,
 ) -> Result<Option<Boxed<CoreExpr>>, AllocError>
-    ensures { IfOk result (λ r. r ≡ other_value scene.now (root_of denoted path.now) path.now.steps parts) }
+    ensures { IfOk result (λ r. r ≡ other_value scene.now (root_of denoted path.now) path.now.steps parts.entry) }
 {
     let mut parts = parts;
     let Some(operand) = take_first(&mut parts) else {
@@ -412,7 +413,7 @@ fn other_found(
     path: &Path,
     parts: Parts<'_>,
 ) -> Result<Found, AllocError>
-    ensures { IfOk result (λ r. r ≡ answer (fault_of_type denoted path.now.steps) (other_value scene.now (root_of denoted path.now) path.now.steps parts)) }
+    ensures { IfOk result (λ r. r ≡ answer (fault_of_type denoted path.now.steps) (other_value scene.now (root_of denoted path.now) path.now.steps parts.entry)) }
 {
     let fault = fault_of_type(denoted, path.steps.as_slice());
     match other_value(alloc, scene, denoted, path, parts)? {
@@ -429,9 +430,38 @@ fn value_of_other(
     path: &Path,
     parts: Parts<'_>,
 ) -> Result<Found, AllocError>
-    ensures { IfOk result (λ r. shown (root_of denoted path.now) path.now parts r ≡ value_of_other scene.now (root_of denoted path.now) path.now parts) }
+    ensures { IfOk result (λ r. shown (root_of denoted path.now) path.now parts.entry r ≡ value_of_other scene.now (root_of denoted path.now) path.now parts.entry) }
 {
     other_found(alloc, scene, denoted, path, parts)
+}
+
+/// The value of a name that begins with a type: a part of an aggregate, or a function.
+fn value_of_type(
+    alloc: Global,
+    scene: &Scene<'_>,
+    denoted: Option<Entity>,
+    subtype: Subtype,
+    path: &Path,
+    parts: Parts<'_>,
+) -> Result<Found, AllocError>
+    ensures { IfOk result (λ r. shown (root_of denoted path.now) path.now parts.entry r ≡ value_of_type scene.now (root_of denoted path.now) subtype path.now parts.entry) }
+{
+    let steps = path.steps.as_slice();
+    let Some(qualified) = qualified_by(steps) else {
+        return value_of_other(alloc, scene, denoted, path, parts);
+    };
+    let id = subtype.base.id;
+    let form = form_in(scene.types(), id);
+    if !has_components(form) {
+        return value_of_other(alloc, scene, denoted, path, parts);
+    }
+    let mut parts = parts;
+    let Some(content) = content_of(alloc, form, qualified.written, &mut parts)? else {
+        return Ok(Found::Fault(fault_of_type(denoted, steps)));
+    };
+    let Qualified { place, written } = qualified;
+    let aggregate = aggregate_with(alloc, denoted, path, place, written, id, content)?;
+    found_along(alloc, scene, aggregate, subtype, steps, 1, parts)
 }
 
 /// What a name denotes whose first identifier denotes this.
@@ -442,11 +472,14 @@ fn found_of(
     path: &Path,
     parts: Parts<'_>,
 ) -> Result<Found, AllocError>
-    ensures { IfOk result (λ r. shown (root_of denoted path.now) path.now parts r ≡ value_of_path scene.now (root_of denoted path.now) path.now parts) }
+    ensures { IfOk result (λ r. shown (root_of denoted path.now) path.now parts.entry r ≡ value_of_path scene.now (root_of denoted path.now) path.now parts.entry) }
 {
     match denoted {
         Some(Entity::Variable(_, object)) => {
             value_of_variable(alloc, scene, denoted, object.subtype, path, parts)
+        }
+        Some(Entity::TypeName(subtype)) => {
+            value_of_type(alloc, scene, denoted, subtype, path, parts)
         }
         _ => value_of_other(alloc, scene, denoted, path, parts),
     }
@@ -462,7 +495,7 @@ pub fn value_of_path(
     parts: Parts<'_>,
 ) -> Result<Boxed<CoreExpr>, AllocError>
     requires { map erased_expr parts ≡ written.now }
-    ensures { IfOk result (λ r. r ≡ value_of_path scene.now (root_of denoted path.now) path.now parts) }
+    ensures { IfOk result (λ r. r ≡ value_of_path scene.now (root_of denoted path.now) path.now parts.entry) }
 {
     match found_of(alloc, scene, denoted, path, parts)? {
         Found::Value(value) => Ok(value),
