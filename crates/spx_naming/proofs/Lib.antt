@@ -3,6 +3,10 @@ pub mod Taken
 pub mod Declared
 pub mod InOrder
 pub mod Walks
+pub mod Reading
+pub mod ArrayLaws
+pub mod RecordLaws
+pub mod AggregateLaws
 pub mod StatementForms
 pub mod Declarations
 pub mod Subprograms

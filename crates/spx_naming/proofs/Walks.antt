@@ -1,5 +1,6 @@
 -- What a name denotes, step by step.
 use Rattle.std.proofs.Common.{◌≡◌, ℕ, ◌+◌, ◌<◌, zero, suc, Bool, true, false, if◌then◌else◌, List, [], ◌∷◌, ◌++◌, length, map, drop, get_or, Option, Some, None, refl, sym, ap, ap₂, ◌∙◌, append_assoc}
+use Rattle.spx_tree.specs.declared.expression.Aggregate.TheVariants as aggregate
 use Rattle.spx_tree.specs.declared.expression.Arguments.TheVariants.{Named, Positional}
 use Rattle.spx_tree.specs.declared.expression.Identifier.{Identifier}
 use Rattle.spx_tree.specs.declared.expression.NameStep.{NameStep}
@@ -102,7 +103,7 @@ answer_shown root path parts fault (Some value) = refl
 abbrev skipped : Bool → ℕ
 skipped on_entry = if on_entry then 1 else 0
 
-abbrev path_of : Identifier → List NameStep → Path
+abbrev pub path_of : Identifier → List NameStep → Path
 path_of root steps = record { root = root; steps = steps }
 
 abbrev variable_found : Scene → CoreName → Subtype → List NameStep → List CoreExpr → Bool → CoreExpr → Path → CoreExpr
@@ -124,10 +125,10 @@ other_shown scene root name (step.Entry ∷ []) [] = refl
 other_shown scene root name (step.Attribute designator ∷ []) [] = refl
 other_shown scene root name (step.Applied place (Positional (suc zero)) ∷ []) (operand ∷ []) = refl
 other_shown scene root name (step.Attribute designator ∷ step.Applied place (Positional (suc zero)) ∷ []) (operand ∷ []) = refl
-other_shown scene root name (step.Qualified place ∷ []) (operand ∷ []) = refl
+other_shown scene root name (step.Qualified place (aggregate.Positional (suc zero)) ∷ []) (operand ∷ []) = refl
 other_shown scene root name (step.Applied place (Positional (suc zero)) ∷ []) [] = refl
 other_shown scene root name (step.Attribute designator ∷ step.Applied place (Positional (suc zero)) ∷ []) [] = refl
-other_shown scene root name (step.Qualified place ∷ []) [] = refl
+other_shown scene root name (step.Qualified place (aggregate.Positional (suc zero)) ∷ []) [] = refl
 other_shown scene root name steps [] = refl
 other_shown scene root name [] (operand ∷ []) = refl
 other_shown scene root name (step.Entry ∷ []) (operand ∷ []) = refl
@@ -141,7 +142,10 @@ other_shown scene root name (step.Attribute designator ∷ step.Attribute other 
 other_shown scene root name (step.Attribute designator ∷ step.Applied place (Named formals) ∷ []) (operand ∷ []) = refl
 other_shown scene root name (step.Attribute designator ∷ step.Applied place (Positional zero) ∷ []) (operand ∷ []) = refl
 other_shown scene root name (step.Attribute designator ∷ step.Applied place (Positional (suc (suc n))) ∷ []) (operand ∷ []) = refl
-other_shown scene root name (step.Attribute designator ∷ step.Qualified place ∷ []) (operand ∷ []) = refl
+other_shown scene root name (step.Qualified place (aggregate.Named lists) ∷ []) (operand ∷ []) = refl
+other_shown scene root name (step.Qualified place (aggregate.Positional zero) ∷ []) (operand ∷ []) = refl
+other_shown scene root name (step.Qualified place (aggregate.Positional (suc (suc n))) ∷ []) (operand ∷ []) = refl
+other_shown scene root name (step.Attribute designator ∷ step.Qualified place written ∷ []) (operand ∷ []) = refl
 other_shown scene root name (step.Attribute designator ∷ step.Entry ∷ []) (operand ∷ []) = refl
 other_shown scene root name steps (operand ∷ []) = refl
 other_shown scene root name [] (operand ∷ another ∷ parts) = refl
@@ -149,5 +153,5 @@ other_shown scene root name (step.Entry ∷ []) (operand ∷ another ∷ parts) 
 other_shown scene root name (step.Attribute designator ∷ []) (operand ∷ another ∷ parts) = refl
 other_shown scene root name (step.Applied place (Positional (suc zero)) ∷ []) (operand ∷ another ∷ parts) = refl
 other_shown scene root name (step.Attribute designator ∷ step.Applied place (Positional (suc zero)) ∷ []) (operand ∷ another ∷ parts) = refl
-other_shown scene root name (step.Qualified place ∷ []) (operand ∷ another ∷ parts) = refl
+other_shown scene root name (step.Qualified place (aggregate.Positional (suc zero)) ∷ []) (operand ∷ another ∷ parts) = refl
 other_shown scene root name steps (operand ∷ another ∷ parts) = refl

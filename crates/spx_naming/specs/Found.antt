@@ -1,6 +1,8 @@
 -- What resolution finds of a name.
-use Rattle.std.specs.Prelude.{Bool, true, false, if◌then◌else◌, List, [], ◌∷◌, ◌++◌, map, Option, Some, None, option_map}
+use Rattle.std.specs.Prelude.{suc, zero, Bool, true, false, if◌then◌else◌, List, [], ◌∷◌, ◌++◌, map, Option, Some, None, option_map}
 use Rattle.spx_text.specs.declared.place.Place.{Place}
+use Rattle.spx_tree.specs.declared.expression.Aggregate.{Aggregate}
+use Rattle.spx_tree.specs.declared.expression.Aggregate.TheVariants as aggregate
 use Rattle.spx_tree.specs.declared.expression.NameStep.{NameStep}
 use Rattle.spx_tree.specs.declared.expression.NameStep.TheVariants as step
 use Rattle.spx_tree.specs.declared.expression.Path.{Path}
@@ -14,7 +16,10 @@ use Rattle.spx_core.specs.declared.part.PartStep.{PartStep}
 use Rattle.spx_core.specs.declared.part.Target.{Target}
 use Rattle.spx_core.specs.NamedParts.{Along}
 use Rattle.spx_core.specs.ResolvedExpressions.{Scene, attributed, entry_of, fault_along, faulty_name, faulty_value, function_value, part_value, step_in_context}
+use Rattle.spx_core.specs.declared.program.TypeForm.{TypeForm}
+use Rattle.spx_core.specs.declared.program.TypeForm.TheVariants.{Array, Record}
 use Rattle.spx_core.specs.declared.program.TypeRow.{TypeRow}
+use Rattle.spx_naming.specs.declared.aggregates.Qualified.{Qualified}
 use Rattle.spx_naming.specs.declared.targets.Way.{Way}
 use Rattle.spx_naming.specs.declared.targets.Way.TheVariants as way
 use Rattle.spx_naming.specs.declared.values.Found.{Found}
@@ -56,9 +61,24 @@ plain_value scene root (step.Entry ∷ []) = Some (entry_of scene.items root)
 plain_value scene root (step.Attribute designator ∷ []) = Some (expr.Attribute (record { name = root.name; entity = attributed scene.types designator root.entity }) designator)
 plain_value scene root steps = None
 
+-- what steps begin with, if that makes an aggregate
+abbrev pub qualified_by : List NameStep → Option (Place × Aggregate)
+qualified_by (step.Qualified place written ∷ steps) = Some (place, written)
+qualified_by steps = None
+
+abbrev pub seen_qualified : Option Qualified → Option (Place × Aggregate)
+seen_qualified (Some q) = Some (q.place, q.written.now)
+seen_qualified None = None
+
+-- the values of a type that is made of this have components
+abbrev pub has_components : Option TypeForm → Bool
+has_components (Some (Array index element)) = true
+has_components (Some (Record fields)) = true
+has_components form = false
+
 -- the function of one operand that steps are
 abbrev pub opened : List NameStep → Option Opening
-opened (step.Qualified place ∷ []) = Some (record { form = form.Qualified; place = place })
+opened (step.Qualified place (aggregate.Positional (suc zero)) ∷ []) = Some (record { form = form.Qualified; place = place })
 opened (s ∷ []) = option_map (λ (place : Place). record { form = form.Simple; place = place }) (one_argument s)
 opened (step.Attribute designator ∷ s ∷ []) = option_map (λ (place : Place). record { form = form.Attribute designator; place = place }) (one_argument s)
 opened steps = None

@@ -1,5 +1,9 @@
+pub mod Aggregates
+pub mod Arrays
 pub mod Before
+pub mod Choices
 pub mod Ends
+pub mod Fields
 pub mod Found
 pub mod Ids
 pub mod Steps

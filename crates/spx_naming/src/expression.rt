@@ -5,8 +5,9 @@ ghost use Rattle.spx_core.specs.ResolvedExpressions.{in_code, resolved_condition
 ghost use Rattle.spx_core.specs.WrittenExpressions.{erased_expr};
 ghost use Rattle.spx_scope.specs.Seen.{seen};
 
+use crate::name_parts::{NamePart, Parts};
 use crate::scene::Scene;
-use crate::steps::Parts;
+use crate::stack::Stack;
 use crate::targets::target_of;
 use crate::values::{copy_parts, value_of_path};
 use spx_context::in_context;
@@ -52,12 +53,12 @@ fn resolve_value(
     alloc: Global,
     path: &Path,
     written: &[Expr],
-    parts: Parts,
+    parts: Parts<'_>,
     scene: &Scene<'_>,
     scope: &Scope<'_>,
 ) -> Result<Boxed<CoreExpr>, AllocError>
     requires { map erased_expr parts ≡ written.now }
-    ensures { IfOk result (λ r. r ≡ resolved_value scene.now (seen scope.now) path.now parts) }
+    ensures { IfOk result (λ r. r ≡ resolved_value scene.now (seen scope.now) path.now parts.entry) }
 {
     let denoted = scope.look_up(&path.root.text);
     value_of_path(alloc, scene, denoted, path, written, parts)
@@ -85,19 +86,20 @@ fn resolve_in_type(
 
 /// The expressions of a name.
 #[cycle(resolve_in)]
-fn resolve_parts(
+fn resolve_parts<'a>(
     alloc: Global,
-    parts: &[Expr],
+    parts: &'a [Expr],
     scene: &Scene<'_>,
     scope: &Scope<'_>,
-) -> Result<Parts, AllocError>
+) -> Result<Parts<'a>, AllocError>
     ensures { IfOk result (λ r. r ≡ map (resolved_in scene.now (seen scope.now)) parts.now) }
 {
     let mut resolved = Vec::new(alloc);
     for part in parts {
-        resolved.push(resolve_in(alloc, part, scene, scope)?)?;
+        let value = resolve_in(alloc, part, scene, scope)?;
+        resolved.push(NamePart::new(value, part))?;
     }
-    Ok(Parts::new(resolved))
+    Ok(Stack::new(resolved))
 }
 
 /// An expression with what its names denote.

@@ -6,16 +6,24 @@
 //! declared twice is `again`: no rule is judged here.
 #![tactic(auto)]
 
+mod aggregates;
+mod array_values;
 mod changed;
 mod choices;
 mod composites;
 mod declaration;
+mod described;
 mod expression;
+mod field_choices;
+mod field_values;
 mod meaning;
+mod name_parts;
 mod names;
 mod parts;
+mod record_values;
 mod scene;
 mod schemes;
+mod stack;
 mod statement;
 mod steps;
 mod tables;

@@ -50,7 +50,7 @@ pub fn static_value(expr: &CoreExpr) -> Option<i128>
 }
 
 /// The value of a static expression; one that is not static breaks a rule, and counts as 0.
-fn value_or_zero(expr: &CoreExpr) -> i128
+pub fn value_or_zero(expr: &CoreExpr) -> i128
     ensures { result ≡ value_or_zero expr.now }
 {
     static_value(expr).unwrap_or(0)

@@ -89,7 +89,6 @@ pub fn resolve_scheme(
             Boxed::new(alloc, CoreScheme::While(*place, condition))
         }
         Scheme::For(count) => {
-            let count = count.get();
             // Two calls keep `resolve_count` a function of its own. Compiled into `resolve_stmt`, which nests, it would
             // take stack at each level.
             let count = match &count.bounds {

@@ -8,6 +8,7 @@ ghost use Rattle.spx_core.specs.NamedParts.{fault_at, field_named, followed, for
 ghost use Rattle.spx_core.specs.ResolvedExpressions.{step_in_context};
 ghost use Rattle.spx_naming.specs.Steps.{after, one_argument, step_of, type_of};
 
+use crate::name_parts::{Parts, take_first};
 use spx_context::in_context;
 use spx_core::{
     CoreExpr, ExprType, Field, Indexing, NameFault, PartStep, Selection, Subtype, TypeForm, TypeId,
@@ -17,53 +18,10 @@ use spx_text::{Place, Text};
 use spx_tree::{Arguments, Identifier, NameStep};
 use sqlite_items::{Boxed, Items, at};
 use std::alloc::{AllocError, Global};
-use std::marker::Model;
 
 /// The most steps of one name to parts. Each is a level of the expression, and indexes have names in them, so that calls which go
 /// down an expression have room for all. A name with more steps counts as one for which memory runs out.
 pub const MOST_STEPS: usize = 20;
-
-/// Resolved expressions of a name, of which the first is taken next. Contracts see them in their order.
-#[derive(Drop)]
-pub struct Parts {
-    /// The first one is the last here.
-    stack: Items<Boxed<CoreExpr>>,
-}
-
-impl Model for Parts {
-    ghost use Rattle.std.specs.Coded.{codes};
-    ghost use Rattle.std.specs.Prelude.{List, reverse};
-    ghost use Rattle.spx_core.specs.contracts.expression.CoreExpr as expression;
-    ghost use Rattle.spx_core.specs.declared.expression.CoreExpr.{CoreExpr};
-
-    ghost Value = { List CoreExpr };
-
-    ghost coded = { Prim.hlevel (codes, expression.the_row.coded) };
-
-    ghost view = { λ p. reverse p.stack };
-}
-
-impl Parts {
-    /// These expressions.
-    #[tactic(auto, using(crate::proofs::Taken::reverse_twice))]
-    pub fn new(parts: Vec<Boxed<CoreExpr>>) -> Parts
-        ensures { result ≡ parts.items }
-    {
-        let mut parts = parts;
-        parts.reverse();
-        Parts {
-            stack: Items::from_vec(parts),
-        }
-    }
-
-    /// Takes the first one.
-    #[tactic(auto, using(crate::proofs::Taken::reverse_last))]
-    pub fn take_first(&mut self) -> Option<Boxed<CoreExpr>>
-        ensures { MatchOption result ((self.old ≡ []) × (self.new ≡ [])) (λ first. self.old ≡ first ∷ self.new) }
-    {
-        self.stack.pop()
-    }
-}
 
 /// A step to a part.
 #[derive(Drop)]
@@ -115,13 +73,13 @@ fn element_step<'a>(
     index: Subtype,
     element: Subtype,
     step: &'a NameStep,
-    parts: &mut Parts,
+    parts: &mut Parts<'_>,
 ) -> Option<Part<'a>>
     ensures step { after result parts.new ≡ part_step (Some (Array index element)) id step.now parts.old }
     ensures kept { MatchOption result (parts.new ≡ parts.old) (λ part. ⊤) }
 {
     let place = one_argument(step)?;
-    let i = parts.take_first()?;
+    let i = take_first(parts)?;
     Some(Part::Element(
         place,
         i,
@@ -146,7 +104,7 @@ pub fn part_step<'a>(
     form: Option<&TypeForm>,
     id: TypeId,
     step: &'a NameStep,
-    parts: &mut Parts,
+    parts: &mut Parts<'_>,
 ) -> Option<Part<'a>>
     ensures step { after result parts.new ≡ part_step (option_copied form.entry) id step.now parts.old }
     ensures kept { MatchOption result (parts.new ≡ parts.old) (λ part. ⊤) }

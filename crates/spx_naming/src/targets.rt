@@ -5,7 +5,8 @@ ghost use Rattle.spx_core.specs.ResolvedExpressions.{target_of};
 ghost use Rattle.spx_core.specs.WrittenExpressions.{erased_expr};
 ghost use Rattle.spx_naming.specs.Found.{leading, root_of, target_with, way_along};
 
-use crate::steps::{MOST_STEPS, Parts, fault_at, form_in, part_step};
+use crate::name_parts::{Parts, take_first};
+use crate::steps::{MOST_STEPS, fault_at, form_in, part_step};
 use crate::values::{faulty_name, root_name};
 use spx_core::{Entity, FaultyName, NameFault, PartStep, Subtype, Target, TypeRow};
 use spx_tree::{Expr, NameStep, Path};
@@ -20,11 +21,11 @@ enum Way {
 }
 
 /// The way, after which these steps and expressions are left; with any it leads nowhere.
-fn leading(fault: NameFault, way: Items<PartStep>, steps: &[NameStep], parts: Parts) -> Way
-    ensures { result ≡ leading fault way steps.now parts }
+fn leading(fault: NameFault, way: Items<PartStep>, steps: &[NameStep], parts: Parts<'_>) -> Way
+    ensures { result ≡ leading fault way steps.now parts.entry }
 {
     let mut parts = parts;
-    match (steps, parts.take_first()) {
+    match (steps, take_first(&mut parts)) {
         ([], None) => Way::Leads(way),
         _ => Way::Fault(fault),
     }
@@ -36,9 +37,9 @@ fn way_at(
     way: Items<PartStep>,
     of: Subtype,
     steps: &[NameStep],
-    parts: Parts,
+    parts: Parts<'_>,
 ) -> Way
-    ensures { result ≡ way_along types.now way (ends_at of steps.now parts) }
+    ensures { result ≡ way_along types.now way (ends_at of steps.now parts.entry) }
 {
     let fault = fault_at(form_in(types, of.base.id), steps);
     leading(fault, way, steps, parts)
@@ -50,9 +51,9 @@ fn way_along(
     types: &[TypeRow],
     of: Subtype,
     steps: &[NameStep],
-    parts: Parts,
+    parts: Parts<'_>,
 ) -> Result<Way, AllocError>
-    ensures { IfOk result (λ r. r ≡ way_along types.now [] (along types.now of steps.now parts)) }
+    ensures { IfOk result (λ r. r ≡ way_along types.now [] (along types.now of steps.now parts.entry)) }
 {
     let mut way = Items::new(alloc);
     let mut of = of;
@@ -77,9 +78,9 @@ fn way_of(
     types: &[TypeRow],
     denoted: Option<Entity>,
     path: &Path,
-    parts: Parts,
+    parts: Parts<'_>,
 ) -> Result<Way, AllocError>
-    ensures { IfOk result (λ r. target_with (root_of denoted path.now) path.now parts r ≡ target_of types.now (root_of denoted path.now) path.now parts) }
+    ensures { IfOk result (λ r. target_with (root_of denoted path.now) path.now parts.entry r ≡ target_of types.now (root_of denoted path.now) path.now parts.entry) }
 {
     let steps = path.steps.as_slice();
     match denoted {
@@ -109,10 +110,10 @@ pub fn target_of(
     denoted: Option<Entity>,
     path: &Path,
     written: &[Expr],
-    parts: Parts,
+    parts: Parts<'_>,
 ) -> Result<Boxed<Target>, AllocError>
     requires { map erased_expr parts ≡ written.now }
-    ensures { IfOk result (λ r. r ≡ target_of types.now (root_of denoted path.now) path.now parts) }
+    ensures { IfOk result (λ r. r ≡ target_of types.now (root_of denoted path.now) path.now parts.entry) }
 {
     match way_of(alloc, types, denoted, path, parts)? {
         Way::Leads(way) => target_with(alloc, denoted, path, way, None),

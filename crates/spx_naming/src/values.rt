@@ -4,18 +4,20 @@ ghost use Rattle.std.specs.Option.{option_copied};
 ghost use Rattle.spx_core.specs.declared.entity.Entity.TheVariants as entity;
 ghost use Rattle.spx_core.specs.declared.expression.CoreExpr.TheVariants as expr;
 ghost use Rattle.spx_core.specs.NamedParts.{along, ends_at, form_in};
-ghost use Rattle.spx_core.specs.ResolvedExpressions.{array_end, attributed, entry_of, fault_of_type, index_of, value_at, value_of_other, value_of_path, value_of_variable, with_index};
+ghost use Rattle.spx_core.specs.ResolvedExpressions.{array_end, attributed, entry_of, fault_of_type, index_of, value_at, value_of_other, value_of_path, value_of_type, value_of_variable, with_index};
 ghost use Rattle.spx_core.specs.WrittenExpressions.{erased_expr};
 ghost use Rattle.spx_naming.specs.Found.{answer, applied_value, begins_with_entry, found_along, object_value, opened, other_value, plain_value, root_of, shown};
 
+use crate::aggregates::{Qualified, aggregate_with, content_of, has_components, qualified_by};
+use crate::name_parts::{Parts, take_first};
 use crate::scene::Scene;
-use crate::steps::{MOST_STEPS, Parts, fault_at, form_in, one_argument, part_step};
+use crate::steps::{MOST_STEPS, fault_at, form_in, one_argument, part_step};
 use spx_core::{
     ArrayEnds, CoreExpr, CoreFunction, CoreName, Entity, FaultyName, FunctionForm, NameFault,
     Subtype, TypeForm, TypeId, TypeRow,
 };
 use spx_text::Place;
-use spx_tree::{Expr, Identifier, Name, NameStep, Path};
+use spx_tree::{Aggregate, Expr, Identifier, Name, NameStep, Path};
 use spx_types::{has_attribute, is_attribute};
 use sqlite_items::{Boxed, Items};
 use std::alloc::{AllocError, Global};
@@ -108,12 +110,12 @@ fn value_at(
     object: Boxed<CoreExpr>,
     id: TypeId,
     steps: &[NameStep],
-    parts: Parts,
+    parts: Parts<'_>,
 ) -> Result<Option<Boxed<CoreExpr>>, AllocError>
-    ensures { IfOk result (λ r. r ≡ value_at scene.now object id (form_in scene.now.types id) steps.now parts) }
+    ensures { IfOk result (λ r. r ≡ value_at scene.now object id (form_in scene.now.types id) steps.now parts.entry) }
 {
     let mut parts = parts;
-    let None = parts.take_first() else {
+    let None = take_first(&mut parts) else {
         return Ok(None);
     };
     match (steps, form_in(scene.types(), id)) {
@@ -132,9 +134,9 @@ fn found_at(
     object: Boxed<CoreExpr>,
     of: Subtype,
     steps: &[NameStep],
-    parts: Parts,
+    parts: Parts<'_>,
 ) -> Result<Found, AllocError>
-    ensures { IfOk result (λ r. r ≡ found_along scene.now object (ends_at of steps.now parts)) }
+    ensures { IfOk result (λ r. r ≡ found_along scene.now object (ends_at of steps.now parts.entry)) }
 {
     let id = of.base.id;
     let fault = fault_at(form_in(scene.types(), id), steps);
@@ -152,9 +154,9 @@ fn found_along(
     of: Subtype,
     steps: &[NameStep],
     first: usize,
-    parts: Parts,
+    parts: Parts<'_>,
 ) -> Result<Found, AllocError>
-    ensures { IfOk result (λ r. r ≡ found_along scene.now object (along scene.now.types of (drop first steps.now) parts)) }
+    ensures { IfOk result (λ r. r ≡ found_along scene.now object (along scene.now.types of (drop first steps.now) parts.entry)) }
 {
     let mut object = object;
     let mut of = of;
@@ -214,9 +216,9 @@ fn value_of_variable(
     denoted: Option<Entity>,
     of: Subtype,
     path: &Path,
-    parts: Parts,
+    parts: Parts<'_>,
 ) -> Result<Found, AllocError>
-    ensures { IfOk result (λ r. shown (root_of denoted path.now) path.now parts r ≡ value_of_variable scene.now (root_of denoted path.now) of path.now parts) }
+    ensures { IfOk result (λ r. shown (root_of denoted path.now) path.now parts.entry r ≡ value_of_variable scene.now (root_of denoted path.now) of path.now parts.entry) }
 {
     let steps = path.steps.as_slice();
     let on_entry = begins_with_entry(steps);
@@ -311,7 +313,7 @@ fn opened(alloc: Global, steps: &[NameStep]) -> Result<Option<Opening>, AllocErr
     ensures { IfOk result (λ r. r ≡ opened steps.now) }
 {
     match steps {
-        [NameStep::Qualified(place)] => {
+        [NameStep::Qualified(place, Aggregate::Positional(1))] => {
             let form = FunctionForm::Qualified;
             Ok(Some(Opening {
                 form,
@@ -361,15 +363,15 @@ fn other_value(
     scene: &Scene<'_>,
     denoted: Option<Entity>,
     path: &Path,
-    parts: Parts,
+    parts: Parts<'_>,
 ) -> Result<Option<Boxed<CoreExpr>>, AllocError>
-    ensures { IfOk result (λ r. r ≡ other_value scene.now (root_of denoted path.now) path.now.steps parts) }
+    ensures { IfOk result (λ r. r ≡ other_value scene.now (root_of denoted path.now) path.now.steps parts.entry) }
 {
     let mut parts = parts;
-    let Some(operand) = parts.take_first() else {
+    let Some(operand) = take_first(&mut parts) else {
         return plain_value(alloc, scene, denoted, path);
     };
-    match parts.take_first() {
+    match take_first(&mut parts) {
         None => applied_value(alloc, denoted, path, operand),
         Some(_) => Ok(None),
     }
@@ -381,6 +383,7 @@ fn fault_of_function(subtype: Subtype, steps: &[NameStep]) -> NameFault
 {
     match steps {
         [NameStep::Applied(_, _)] => NameFault::WrongArguments,
+        [NameStep::Qualified(_, _)] => NameFault::WrongArguments,
         [NameStep::Attribute(designator), NameStep::Applied(_, _)] => {
             if has_attribute(subtype, &designator.text) {
                 NameFault::WrongArguments
@@ -408,9 +411,9 @@ fn other_found(
     scene: &Scene<'_>,
     denoted: Option<Entity>,
     path: &Path,
-    parts: Parts,
+    parts: Parts<'_>,
 ) -> Result<Found, AllocError>
-    ensures { IfOk result (λ r. r ≡ answer (fault_of_type denoted path.now.steps) (other_value scene.now (root_of denoted path.now) path.now.steps parts)) }
+    ensures { IfOk result (λ r. r ≡ answer (fault_of_type denoted path.now.steps) (other_value scene.now (root_of denoted path.now) path.now.steps parts.entry)) }
 {
     let fault = fault_of_type(denoted, path.steps.as_slice());
     match other_value(alloc, scene, denoted, path, parts)? {
@@ -425,11 +428,40 @@ fn value_of_other(
     scene: &Scene<'_>,
     denoted: Option<Entity>,
     path: &Path,
-    parts: Parts,
+    parts: Parts<'_>,
 ) -> Result<Found, AllocError>
-    ensures { IfOk result (λ r. shown (root_of denoted path.now) path.now parts r ≡ value_of_other scene.now (root_of denoted path.now) path.now parts) }
+    ensures { IfOk result (λ r. shown (root_of denoted path.now) path.now parts.entry r ≡ value_of_other scene.now (root_of denoted path.now) path.now parts.entry) }
 {
     other_found(alloc, scene, denoted, path, parts)
+}
+
+/// The value of a name that begins with a type: a part of an aggregate, or a function.
+fn value_of_type(
+    alloc: Global,
+    scene: &Scene<'_>,
+    denoted: Option<Entity>,
+    subtype: Subtype,
+    path: &Path,
+    parts: Parts<'_>,
+) -> Result<Found, AllocError>
+    ensures { IfOk result (λ r. shown (root_of denoted path.now) path.now parts.entry r ≡ value_of_type scene.now (root_of denoted path.now) subtype path.now parts.entry) }
+{
+    let steps = path.steps.as_slice();
+    let Some(qualified) = qualified_by(steps) else {
+        return value_of_other(alloc, scene, denoted, path, parts);
+    };
+    let id = subtype.base.id;
+    let form = form_in(scene.types(), id);
+    if !has_components(form) {
+        return value_of_other(alloc, scene, denoted, path, parts);
+    }
+    let mut parts = parts;
+    let Some(content) = content_of(alloc, form, qualified.written, &mut parts)? else {
+        return Ok(Found::Fault(fault_of_type(denoted, steps)));
+    };
+    let Qualified { place, written } = qualified;
+    let aggregate = aggregate_with(alloc, denoted, path, place, written, id, content)?;
+    found_along(alloc, scene, aggregate, subtype, steps, 1, parts)
 }
 
 /// What a name denotes whose first identifier denotes this.
@@ -438,13 +470,16 @@ fn found_of(
     scene: &Scene<'_>,
     denoted: Option<Entity>,
     path: &Path,
-    parts: Parts,
+    parts: Parts<'_>,
 ) -> Result<Found, AllocError>
-    ensures { IfOk result (λ r. shown (root_of denoted path.now) path.now parts r ≡ value_of_path scene.now (root_of denoted path.now) path.now parts) }
+    ensures { IfOk result (λ r. shown (root_of denoted path.now) path.now parts.entry r ≡ value_of_path scene.now (root_of denoted path.now) path.now parts.entry) }
 {
     match denoted {
         Some(Entity::Variable(_, object)) => {
             value_of_variable(alloc, scene, denoted, object.subtype, path, parts)
+        }
+        Some(Entity::TypeName(subtype)) => {
+            value_of_type(alloc, scene, denoted, subtype, path, parts)
         }
         _ => value_of_other(alloc, scene, denoted, path, parts),
     }
@@ -457,10 +492,10 @@ pub fn value_of_path(
     denoted: Option<Entity>,
     path: &Path,
     written: &[Expr],
-    parts: Parts,
+    parts: Parts<'_>,
 ) -> Result<Boxed<CoreExpr>, AllocError>
     requires { map erased_expr parts ≡ written.now }
-    ensures { IfOk result (λ r. r ≡ value_of_path scene.now (root_of denoted path.now) path.now parts) }
+    ensures { IfOk result (λ r. r ≡ value_of_path scene.now (root_of denoted path.now) path.now parts.entry) }
 {
     match found_of(alloc, scene, denoted, path, parts)? {
         Found::Value(value) => Ok(value),
