@@ -42,19 +42,30 @@ fn step_op(count: &CoreCount) -> TermOp
 
 impl Draft {
     /// The id of a bound, which has a name unless it stands for itself.
-    fn bound_id(&mut self, body: &Body, name: Name, expr: &CoreExpr) -> Result<TermId, AllocError>
+    fn bound_id(
+        &mut self,
+        alloc: Global,
+        body: &Body,
+        name: Name,
+        expr: &CoreExpr,
+    ) -> Result<TermId, AllocError>
         requires order { InOrder self.old.steps }
         requires interface { IsInterfaceOf body.now.sub.now body.now.interface.now }
         ensures { IfOk result (λ id. AddsTerm self.old self.new id (bound_term body.now.program.now body.now.sub.now name expr.now)) }
     {
         if is_fixed(body.interface, expr) {
-            return self.code_id(body.program, expr);
+            return self.code_id(alloc, body.program, expr);
         }
         self.steps.terms.make(Node::Variable(name))
     }
 
     /// The id of the lower bound.
-    pub fn low_id(&mut self, body: &Body, count: &CoreCount) -> Result<TermId, AllocError>
+    pub fn low_id(
+        &mut self,
+        alloc: Global,
+        body: &Body,
+        count: &CoreCount,
+    ) -> Result<TermId, AllocError>
         requires order { InOrder self.old.steps }
         requires interface { IsInterfaceOf body.now.sub.now body.now.interface.now }
         ensures { IfOk result (λ id. AddsTerm self.old self.new id (low_term body.now.program.now body.now.sub.now count.now)) }
@@ -66,13 +77,18 @@ impl Draft {
             }
             Some(range) => {
                 let low = range.low.get();
-                self.bound_id(body, first_name(count.parameter), low)
+                self.bound_id(alloc, body, first_name(count.parameter), low)
             }
         }
     }
 
     /// The id of the upper bound.
-    pub fn high_id(&mut self, body: &Body, count: &CoreCount) -> Result<TermId, AllocError>
+    pub fn high_id(
+        &mut self,
+        alloc: Global,
+        body: &Body,
+        count: &CoreCount,
+    ) -> Result<TermId, AllocError>
         requires order { InOrder self.old.steps }
         requires interface { IsInterfaceOf body.now.sub.now body.now.interface.now }
         ensures { IfOk result (λ id. AddsTerm self.old self.new id (high_term body.now.program.now body.now.sub.now count.now)) }
@@ -84,7 +100,7 @@ impl Draft {
             }
             Some(range) => {
                 let high = range.high.get();
-                self.bound_id(body, last_name(count.parameter), high)
+                self.bound_id(alloc, body, last_name(count.parameter), high)
             }
         }
     }
@@ -92,6 +108,7 @@ impl Draft {
     /// The id of the upper bound, or of the lower one.
     fn limit_id(
         &mut self,
+        alloc: Global,
         body: &Body,
         count: &CoreCount,
         is_upper: bool,
@@ -101,14 +118,15 @@ impl Draft {
         ensures { IfOk result (λ id. AddsTerm self.old self.new id (if is_upper then high_term body.now.program.now body.now.sub.now count.now else low_term body.now.program.now body.now.sub.now count.now)) }
     {
         if is_upper {
-            return self.high_id(body, count);
+            return self.high_id(alloc, body, count);
         }
-        self.low_id(body, count)
+        self.low_id(alloc, body, count)
     }
 
     /// A bound that does not stand for itself takes its value under its name.
     fn name_bound(
         &mut self,
+        alloc: Global,
         body: &Body,
         name: Name,
         expr: &CoreExpr,
@@ -122,13 +140,14 @@ impl Draft {
         if is_fixed(body.interface, expr) {
             return Ok(next);
         }
-        let value = self.code_id(body.program, expr)?;
+        let value = self.code_id(alloc, body.program, expr)?;
         self.steps.assign(name, value, next)
     }
 
     /// The parameter takes its first value.
     pub fn begin_count(
         &mut self,
+        alloc: Global,
         body: &Body,
         count: &CoreCount,
         into: StepId,
@@ -138,7 +157,7 @@ impl Draft {
         requires within { into.0 < length self.old.steps.nodes }
         ensures { IfOk result (λ id. Lays self.old self.new id (Assign (now body.now.program.now count.now.parameter) (start_term body.now.program.now body.now.sub.now count.now) (step_tree self.old.steps into))) }
     {
-        let start = self.limit_id(body, count, count.is_reverse)?;
+        let start = self.limit_id(alloc, body, count, count.is_reverse)?;
         self.steps
             .assign(now(body.program, count.parameter), start, into)
     }
@@ -158,11 +177,11 @@ impl Draft {
         requires within { (into.0 < length self.old.steps.nodes) × (out.0 < length self.old.steps.nodes) }
         ensures { IfOk result (λ id. Lays self.old self.new id (between_bounds body.now.program.now body.now.sub.now count.now place (step_tree self.old.steps into) (step_tree self.old.steps out))) }
     {
-        let low = self.low_id(body, count)?;
-        let high = self.high_id(body, count)?;
+        let low = self.low_id(alloc, body, count)?;
+        let high = self.high_id(alloc, body, count)?;
         let some = self.steps.terms.infix(TermOp::LessOrEqual, low, high)?;
         let none = self.steps.terms.infix(TermOp::Greater, low, high)?;
-        let first = self.begin_count(body, count, into)?;
+        let first = self.begin_count(alloc, body, count, into)?;
         let entered = self.steps.assume(some, first)?;
         let passed = self.steps.assume(none, out)?;
         let at = self.steps.split(entered, passed)?;
@@ -190,8 +209,20 @@ impl Draft {
     {
         let place = range.low.get().place();
         let mut at = self.enter_between(alloc, body, count, place, into, out)?;
-        at = self.name_bound(body, last_name(count.parameter), range.high.get(), at)?;
-        at = self.name_bound(body, first_name(count.parameter), range.low.get(), at)?;
+        at = self.name_bound(
+            alloc,
+            body,
+            last_name(count.parameter),
+            range.high.get(),
+            at,
+        )?;
+        at = self.name_bound(
+            alloc,
+            body,
+            first_name(count.parameter),
+            range.low.get(),
+            at,
+        )?;
         self.checked(alloc, body.program, range.low.get())?;
         self.checked_id(alloc, body.program, &[], range.high.get())?;
         let id = self.lay(at)?;
@@ -213,7 +244,7 @@ impl Draft {
         ensures { IfOk result (λ id. Makes self.old self.new id (enter_range body.now.program.now body.now.sub.now count.now count.now.bounds (λ made. step_tree self.old.steps into) (λ made. step_tree self.old.steps out) 0)) }
     {
         match &count.bounds {
-            None => self.begin_count(body, count, into),
+            None => self.begin_count(alloc, body, count, into),
             Some(range) => self.enter_range(alloc, body, count, range, into, out),
         }
     }
@@ -238,6 +269,7 @@ impl Draft {
     /// The end of a turn: the parameter takes its next value where it has not come to the end.
     pub fn count_on(
         &mut self,
+        alloc: Global,
         body: &Body,
         count: &CoreCount,
         into: StepId,
@@ -252,7 +284,7 @@ impl Draft {
             .steps
             .terms
             .make(Node::Variable(now(body.program, count.parameter)))?;
-        let end = self.limit_id(body, count, !count.is_reverse)?;
+        let end = self.limit_id(alloc, body, count, !count.is_reverse)?;
         let one = self.steps.terms.make(Node::Number(1))?;
         let next = self.steps.terms.infix(step_op(count), value, one)?;
         let before = self.steps.terms.infix(test_op(count), value, end)?;

@@ -194,7 +194,7 @@ impl Draft {
         let way = target.way.as_slice();
         self.check_way(alloc, program, way)?;
         let value = self.checked_id(alloc, program, &[], expr)?;
-        let whole = with_target_id(program, &mut self.steps.terms, target, value)?;
+        let whole = with_target_id(alloc, program, &mut self.steps.terms, target, value)?;
         let entity = target.root.entity;
         let set = self.part_assigned(alloc, program, entity, whole, next)?;
         let at = self.range_check(alloc, part_type(way), expr.place(), value, set)?;
@@ -451,7 +451,7 @@ impl Draft {
             CoreScheme::While(_, condition) => {
                 self.decided(alloc, body.program, condition.get(), false, into, out)
             }
-            CoreScheme::For(count) => self.count_on(body, count.get(), into, out),
+            CoreScheme::For(count) => self.count_on(alloc, body, count.get(), into, out),
             CoreScheme::Endless => Ok(into),
         }
     }
@@ -609,7 +609,7 @@ impl Draft {
         ensures cuts { OnOk result ((place : Place) → BuildsCuts body.now.program.now body.now.sub.now (counts next.now.within.now) self.old self.new cuts.old cuts.new (select place selector.now (map alternative alternatives.now)) next.now.rest next.now.leave) }
         ensures made { IfOk result (λ id. (place : Place) → Builds body.now.program.now body.now.sub.now self.old self.new (select place selector.now (map alternative alternatives.now)) next.now.rest next.now.leave id) }
     {
-        let value = self.code_id(body.program, selector)?;
+        let value = self.code_id(alloc, body.program, selector)?;
         let facts = facts_of_all(alloc, &mut self.steps.terms, value, alternatives)?;
         let first = self.alternatives(alloc, body, cuts, facts.as_slice(), alternatives, next)?;
         match first {

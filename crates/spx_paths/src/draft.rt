@@ -34,11 +34,22 @@ pub struct Draft {
 
 impl Draft {
     /// The id of the term of an expression in code.
-    pub fn code_id(&mut self, program: &Program, expr: &CoreExpr) -> Result<TermId, AllocError>
+    pub fn code_id(
+        &mut self,
+        alloc: Global,
+        program: &Program,
+        expr: &CoreExpr,
+    ) -> Result<TermId, AllocError>
         requires { InOrder self.old.steps }
         ensures { IfOk result (λ id. AddsTerm self.old self.new id (term_of program.now (now_term program.now) expr.now)) }
     {
-        let id = term_id(program, &Entered::Present, &mut self.steps.terms, expr)?;
+        let id = term_id(
+            alloc,
+            program,
+            &Entered::Present,
+            &mut self.steps.terms,
+            expr,
+        )?;
         Ok(id)
     }
 

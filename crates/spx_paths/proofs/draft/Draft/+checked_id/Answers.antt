@@ -1,6 +1,7 @@
-use Rattle.std.proofs.Common.{◌≡◌, List, ap, refl, rules, subst, ◌∙◌}
+use Rattle.std.proofs.Common.{◌≡◌, ◌+◌, List, ap, refl, rules, subst, sym, ◌∙◌}
 use Rattle.std.proofs.lemmas.Int.{to_z-of_z}
 use Rattle.std.specs.Int.{w128}
+use Rattle.spx_core.specs.declared.aggregate.Role.{Role}
 use Rattle.spx_core.specs.declared.expression.CoreExpr.{CoreExpr, the_lemmas}
 use Rattle.spx_core.specs.declared.program.Program.{Program}
 use Rattle.spx_core.specs.Places.{place_of}
@@ -11,6 +12,7 @@ use Rattle.spx_arena.specs.declared.terms.TermId.{TermId}
 use Rattle.spx_paths.specs.declared.draft.Draft.{Draft}
 use Rattle.spx_paths.specs.Waiting.{Checked}
 use Rattle.spx_paths.proofs.CheckSteps.{eval_applied, eval_element, eval_free, eval_implicit, eval_in_range, eval_in_type, eval_infix, eval_parenthesized, eval_prefix, eval_selected, eval_static, id_kept, ids_kept, keeps_twice, only_gives, only_keeps, term_gives, term_keeps}
+use Rattle.spx_paths.proofs.PartSteps.{ChecksFirst, all_checked, eval_aggregate, next_checked, none_checked, part_checked, part_unchecked}
 use Rattle.spx_paths.proofs.CheckLaws.{attribute_free, end_free, entry_free, faulty_free, name_free, number_free}
 use Rattle.spx_paths.proofs.draft.Draft.+checked_id.Goals as goal
 
@@ -197,3 +199,47 @@ checked_element-returns-clause-makes t c =
     c.in_ok-first.ensures.keeps c.in_ok-first.ensures.within (at_part c.get-2.ensures c.in_ok-first.ensures.makes)
     c.in_ok-second.ensures.keeps c.in_ok-second.ensures.within (at_part c.get-3.ensures c.in_ok-second.ensures.makes) c.get-4.ensures (c.place-at.ensures ∙ ap place_of c.get.ensures)
     c.in_ok-check_index.ensures.keeps c.in_ok-check_index.ensures.walks c.get-5.ensures c.in_ok-id.ensures
+
+-- ---- aggregates
+pub checked_part-check_range-requires-clause-lefts : goal.checked_part-check_range-requires-clause-lefts
+checked_part-check_range-requires-clause-lefts t c = ids_kept c.in_ok-id-in-Some.ensures.keeps c.args.lefts.now c.requires.lefts
+
+pub checked_part-returns-in_ok-check_range-in-Some-clause-makes : goal.checked_part-returns-in_ok-check_range-in-Some-clause-makes
+checked_part-returns-in_ok-check_range-in-Some-clause-makes t c =
+    part_checked c.args.program.now c.args.lefts.now c.in-Some.of c.in-Some.is c.requires.lefts
+    c.in_ok-id-in-Some.ensures.keeps c.in_ok-id-in-Some.ensures.within c.in_ok-id-in-Some.ensures.makes c.place.ensures
+    c.in_ok-check_range-in-Some.ensures.keeps c.in_ok-check_range-in-Some.ensures.walks
+
+pub checked_part-returns-in_ok-code_id-in-None-clause-keeps : goal.checked_part-returns-in_ok-code_id-in-None-clause-keeps
+checked_part-returns-in_ok-code_id-in-None-clause-keeps t c = term_keeps c.requires.whole c.in_ok-code_id-in-None.ensures
+
+pub checked_part-returns-in_ok-code_id-in-None-clause-makes : goal.checked_part-returns-in_ok-code_id-in-None-clause-makes
+checked_part-returns-in_ok-code_id-in-None-clause-makes t c =
+    part_unchecked c.args.program.now c.args.lefts.now c.in-None.is (term_gives c.requires.whole c.in_ok-code_id-in-None.ensures)
+
+pub checked_parts-loop-part-init : goal.checked_parts-loop-part-init
+checked_parts-loop-part-init t c = subst (λ (ids : List TermId). ChecksFirst c.args.program.now c.args.lefts.now c.args.self.now c.args.self.now c.args.roles.now c.args.roles.now c.args.parts.now 0 ids) (sym c.new-ids.ensures) (none_checked c.args.program.now c.args.lefts.now c.args.self.now c.args.roles.now c.args.parts.now c.requires.whole)
+
+pub checked_parts-checked_part-requires : goal.checked_parts-checked_part-requires
+checked_parts-checked_part-requires t c =
+    let k = c.loop-part.invariant.keeps in
+    (search (rules, the_lemmas), (k.whole, ids_kept k c.args.lefts.now c.requires.lefts))
+
+pub checked_parts-loop-part-preserved : goal.checked_parts-loop-part-preserved
+checked_parts-loop-part-preserved t c =
+    let here = c.past_fields-here in
+    let x = c.in_ok-checked_part.ensures in
+    subst (λ (left : List Role). ChecksFirst c.args.program.now c.args.lefts.now c.args.self.now c.checked_part.new.self c.args.roles.now left c.args.parts.now (c.loop-part.part-index + 1) c.push.new.self) (sym c.after_first-rest.ensures)
+    (next_checked c.args.program.now c.args.lefts.now c.args.roles.now c.args.parts.now c.loop-part.part-index c.part-item.result c.loop-part.ids c.requires.lefts c.loop-part-test.true c.part-item.is
+    c.loop-part.invariant here.ensures x.keeps x.within c.value_type-of.ensures x.makes c.in_ok-push.ensures.ok)
+
+pub checked_parts-returns-clause-makes : goal.checked_parts-returns-clause-makes
+checked_parts-returns-clause-makes t c = all_checked c.args.program.now c.args.lefts.now c.args.roles.now c.args.parts.now c.loop-part.part-index c.loop-part.ids c.loop-part-test.false c.loop-part.invariant
+
+pub checked_aggregate-returns-clause-keeps : goal.checked_aggregate-returns-clause-keeps
+checked_aggregate-returns-clause-keeps t c = let k = c.in_ok-ids.ensures.keeps in keeps_twice k (only_keeps k.whole c.in_ok-id.ensures.grown)
+
+pub checked_aggregate-returns-clause-makes : goal.checked_aggregate-returns-clause-makes
+checked_aggregate-returns-clause-makes t c =
+    eval_aggregate c.args.program.now c.args.lefts.now c.in-Aggregate.field-0 c.in-Aggregate.composition c.in-Aggregate.parts c.in-Aggregate.is
+    c.in_ok-ids.ensures.keeps c.get-composition.ensures c.as_slice-roles.ensures c.as_slice.ensures c.in_ok-ids.ensures.makes c.as_slice-2.ensures c.in_ok-id.ensures
