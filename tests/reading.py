@@ -6,8 +6,10 @@ that page, and each is asked only where the ones before it had nothing to report
 
 import re
 import sys
+from contextlib import contextmanager
 from dataclasses import dataclass, replace
 from functools import cache, lru_cache
+from itertools import islice
 from typing import Optional, Union
 
 INTEGER_FIRST = -2**31
@@ -114,6 +116,7 @@ TEXTS = {
     'N12': 'static value out of range',
     'N13': 'bad range',
     'N14': 'wrong arguments',
+    'N16': 'component not given once',
     'N17': 'choice not given once',
     'N18': 'entry value not allowed',
     'U2': 'target cannot be assigned',
@@ -130,8 +133,19 @@ def finding(rule, place):
     return Finding(rule, place, TEXTS[rule])
 
 
-# The places of parts that lie outside of the type that is taken, in the expression that is judged now.
+# The places of parts that lie outside of the type that is taken, in the expression that is judged now. Where nothing takes a type, it is none.
 OUTSIDE = []
+
+
+@contextmanager
+def noting(places):
+    """For a part that is judged by itself, these places are noted."""
+    global OUTSIDE
+    before, OUTSIDE = OUTSIDE, places
+    try:
+        yield
+    finally:
+        OUTSIDE = before
 
 
 def require(rule, place, is_kept):
@@ -321,12 +335,18 @@ class Name:
 class Step:
     """A step of a name after its identifier, by the tokens with which it begins: `.`, `'`, `(`, `'(` or `~`.
 
-    The first two have an identifier. Parentheses hold expressions, each with the name of a formal before it, or none of them.
+    The first two have an identifier. Parentheses hold expressions, each with the name of a formal before it, or none of them. After
+    `'(` they may hold associations in their place.
     """
     form: str
     name: Optional[Name] = None
     parts: tuple = ()
     formals: tuple = ()
+    associations: tuple = ()
+
+    def expressions(self):
+        """All expressions in the parentheses."""
+        return self.parts + tuple(part for association in self.associations for part in association.expressions())
 
 
 @dataclass(frozen=True)
@@ -449,9 +469,34 @@ class Selection:
 
 
 @dataclass(frozen=True)
+class Component:
+    """A value in an aggregate, what it is for, and the type that it lies in.
+
+    It is for spans of indexes, each from its first to its last one, or for fields by their words. `others` in an array has none of its own.
+    """
+    keys: Optional[tuple]
+    value: 'Expression'
+    subtype: Subtype
+
+
+@dataclass(frozen=True)
+class Aggregate:
+    """`name'(components)`, where the name is that of an array or record type of this kind; it is at its name."""
+    name: Name
+    kind: Kind
+    components: tuple
+    value = None
+
+    @property
+    def place(self):
+        """The place of the name."""
+        return self.name.place
+
+
+@dataclass(frozen=True)
 class Part:
-    """A part of a variable, or of its value on entry, to which these steps lead; it is where the variable is named."""
-    root: Union[Variable, OnEntry]
+    """A part of a variable, of its value on entry, or of an aggregate, to which these steps lead; it is where that is."""
+    root: Union[Variable, OnEntry, Aggregate]
     way: tuple
     value = None
 
@@ -559,7 +604,7 @@ class Parenthesized:
     value: Union[int, bool, None] = None
 
 
-Expression = Union[Name, Path, Variable, OnEntry, Part, Static, Applied, Operation, Prefix, Membership, Parenthesized]
+Expression = Union[Name, Path, Variable, OnEntry, Aggregate, Part, Static, Applied, Operation, Prefix, Membership, Parenthesized]
 
 
 @dataclass(frozen=True)
@@ -618,6 +663,22 @@ class Choice:
     def last(self):
         """The last value that it covers, if it covers any."""
         return (self.high or self.low).value
+
+
+    def bounds(self):
+        """Its expressions."""
+        return (self.low, self.high) if self.high else (self.low,)
+
+
+@dataclass(frozen=True)
+class Association:
+    """`choices => value`; for `others` there are no choices."""
+    choices: Optional[list]
+    value: Expression
+
+    def expressions(self):
+        """The bounds of its choices, and its value."""
+        return (*(bound for choice in self.choices or () for bound in choice.bounds()), self.value)
 
 
 @dataclass(frozen=True)
@@ -1143,18 +1204,23 @@ class Parser:
     def alternative(self, above):
         """"when" ("others" | choice {"|" choice}) "=>" statement {statement}"""
         self.take('when')
-        choices = None
-        if not self.take_if('others'):
-            choices = [self.choice(above)]
-            while self.take_if('|'):
-                choices.append(self.choice(above))
+        choices = self.choices(False, above)
         self.take('=>')
         return Alternative(choices, self.statements(above))
 
-    def choice(self, above):
-        """sum [".." sum]"""
-        low = self.sum(False, above)
-        return Choice(low, self.sum(False, above) if self.take_if('..') else None)
+    def choices(self, marked, above, first=None):
+        """"others" | choice {"|" choice}, of which the first sum may be there already; there are none for "others" """
+        if not first and self.take_if('others', marked):
+            return None
+        found = [self.choice(marked, above, first)]
+        while self.take_if('|', marked):
+            found.append(self.choice(marked, above))
+        return found
+
+    def choice(self, marked, above, first=None):
+        """sum [".." sum], of which the first sum may be there already"""
+        low = first or self.sum(marked, above)
+        return Choice(low, self.sum(marked, above) if self.take_if('..', marked) else None)
 
     def arm(self, place, above):
         """expression "then" statement {statement}"""
@@ -1264,11 +1330,11 @@ class Parser:
         root, steps = self.identifier(marked), []
         while any(self.next_is(kind, marked) for kind in ('.', "'", '(', '~')):
             steps.append(self.step(marked, above))
-        levels = max((levels_of(part) + 1 for step in steps for part in step.parts), default=0)
+        levels = max((levels_of(part) + 1 for step in steps for part in step.expressions()), default=0)
         return Path(root, tuple(steps), levels) if steps else root
 
     def step(self, marked, above):
-        """"." id | "'" id | "(" arguments ")" | "'" "(" expression ")" | "~" """
+        """"." id | "'" id | "(" arguments ")" | "'" "(" aggregate ")" | "~" """
         if self.take_if('.', marked):
             return Step('.', self.identifier(marked))
         if self.take_if('~', marked):
@@ -1277,12 +1343,12 @@ class Parser:
         if apostrophe and not self.next_is('(', marked):
             return Step("'", self.identifier(marked))
         self.opening(('(',), marked, above + 1)
-        formals, parts = ((), (self.expression(marked, above + 1),)) if apostrophe else self.arguments(marked, above + 1)
+        step = self.aggregate(marked, above + 1) if apostrophe else self.arguments(marked, above + 1)
         self.take(')', marked)
-        return Step("'(" if apostrophe else '(', None, parts, formals)
+        return step
 
     def arguments(self, marked, above):
-        """expression {"," expression} | id "=>" expression {"," id "=>" expression}: the formals, and the expressions"""
+        """expression {"," expression} | id "=>" expression {"," id "=>" expression}"""
         following = self.tokens[self.at + 1] if self.at + 1 < len(self.tokens) else None
         is_named = self.next_is('identifier', marked) and following is not None and (following.kind, following.marked) == ('=>', marked)
         formals, parts = [], []
@@ -1291,7 +1357,35 @@ class Parser:
                 formals.append(self.identifier(marked))
                 self.take('=>', marked)
             parts.append(self.expression(marked, above))
-        return tuple(formals), tuple(parts)
+        return Step('(', parts=tuple(parts), formals=tuple(formals))
+
+    def aggregate(self, marked, above):
+        """expression {"," expression} | association {"," association}
+
+        The first expression is a choice where it is a sum and goes on as a choice does.
+        """
+        if self.next_is('others', marked):
+            return Step("'(", associations=self.associations(marked, above))
+        first = self.expression(marked, above)
+        if is_sum(first) and any(self.next_is(kind, marked) for kind in ('=>', '|', '..')):
+            return Step("'(", associations=self.associations(marked, above, first))
+        parts = [first]
+        while self.take_if(',', marked):
+            parts.append(self.expression(marked, above))
+        return Step("'(", parts=tuple(parts))
+
+    def associations(self, marked, above, first=None):
+        """association {"," association}, of which the first sum may be there already"""
+        found = [self.association(marked, above, first)]
+        while self.take_if(',', marked):
+            found.append(self.association(marked, above))
+        return tuple(found)
+
+    def association(self, marked, above, first=None):
+        """("others" | choice {"|" choice}) "=>" expression, of which the first sum may be there already"""
+        choices = self.choices(marked, above, first)
+        self.take('=>', marked)
+        return Association(choices, self.expression(marked, above))
 
     def identifiers(self):
         """id {"," id}"""
@@ -1315,8 +1409,17 @@ def levels_of(expression):
     return expression.levels if isinstance(expression, (Path, Operation, Prefix, Membership, Parenthesized)) else 0
 
 
+def is_sum(expression):
+    """Whether an expression, as it is read, is a sum: no relation, no membership test, and no logical operation."""
+    is_operation = isinstance(expression, Operation) and expression.operator not in SIGNS + PRODUCTS + ('**',)
+    return not is_operation and not isinstance(expression, Membership)
+
+
 def parts_of(expression):
-    """The expressions that an operator, a membership test, parentheses or a part hold, from left to right; else nothing."""
+    """The expressions that an operator, a membership test, parentheses, a part or an aggregate hold, from left to right; else nothing.
+
+    Of an aggregate they are the values.
+    """
     if isinstance(expression, Operation):
         return (expression.left, expression.right)
     if isinstance(expression, Prefix):
@@ -1327,6 +1430,8 @@ def parts_of(expression):
         return (expression.operand,)
     if isinstance(expression, Part):
         return expression.indexes()
+    if isinstance(expression, Aggregate):
+        return tuple(component.value for component in expression.components)
     return (expression.inner,) if isinstance(expression, Parenthesized) else ()
 
 
@@ -1379,27 +1484,52 @@ def is_number(value):
     return not isinstance(value, bool)
 
 
-@dataclass(frozen=True)
+@dataclass(frozen=True, eq=False)
 class Parted:
-    """A value of an array or record type. Its parts, by index or by field, are the first values of their types, but for these ones."""
+    """A value of an array or record type. Its parts, by index or by field, are all the rest, or the first values of their types, but for these ones."""
     kind: Kind
     parts: dict
+    rest: object = None
+
+    def at(self, key):
+        """The part at an index of the array, or of a field."""
+        if key in self.parts:
+            return self.parts[key]
+        if self.rest is not None:
+            return self.rest
+        return first_value(self.kind.element or self.kind.fields[key].subtype)
+
+    def __eq__(self, other):
+        """Whether all parts are equal. Those that neither value has of its own are the rest of each."""
+        keys = self.parts.keys() | other.parts.keys()
+        if self.kind.fields is not None:
+            return all(self.at(key) == other.at(key) for key in self.kind.fields)
+        others = (key for key in range(self.kind.index.first, self.kind.index.last + 1) if key not in keys)
+        return all(self.at(key) == other.at(key) for key in [*keys, *islice(others, 1)])
 
     def part(self, step, key):
         """The part to which a step leads; that which is not there is the first value of its type."""
         is_there = isinstance(step, Selection) or step.array.index.has(key)
-        found = self.parts.get(key) if is_there else None
-        return first_value(step.subtype) if found is None else found
+        return self.at(key) if is_there else first_value(step.subtype)
 
     def with_part(self, steps, keys, value):
         """The value with another one at the end of a way, if all of that is there."""
         if not steps:
             return value
         (step, *rest), (key, *others) = steps, keys
-        old = self.part(step, key)
-        new = old.with_part(rest, others, value) if rest else value
-        parts = {at: part for at, part in self.parts.items() if at != key}
-        return Parted(self.kind, parts if new == first_value(step.subtype) else parts | {key: new})
+        new = self.part(step, key).with_part(rest, others, value) if rest else value
+        return Parted(self.kind, self.parts | {key: new}, self.rest)
+
+
+def composed(tree, values):
+    """The value of an aggregate whose components have these values."""
+    parts, others = {}, None
+    for component, value in zip(tree.components, values):
+        if component.keys is None:
+            others = value
+        for key in component.keys or ():
+            parts |= dict.fromkeys(range(key[0], key[1] + 1) if tree.kind.index else (key,), value)
+    return Parted(tree.kind, parts, others)
 
 
 @cache
@@ -1442,10 +1572,20 @@ def evaluated(expression, store):
         for step in expression.way:
             value = value.part(step, key_of(step, store))
         return value
+    if isinstance(expression, Aggregate):
+        return composed(expression, [evaluated_in(component.value, component.subtype, store) for component in expression.components])
     if isinstance(expression, Operation) and expression.operator in SHORT_CIRCUIT:
         left = evaluated(expression.left, store)
         return evaluated(expression.right, store) if left == (expression.operator == 'and then') else left
     return applied(expression, [evaluated(part, store) for part in parts_of(expression)])
+
+
+def evaluated_in(expression, subtype, store):
+    """The value of an expression, which lies in a type."""
+    value = evaluated(expression, store)
+    if not subtype.has(value):
+        raise Fault('range', expression.place)
+    return value
 
 
 def key_of(step, store):
@@ -1525,7 +1665,8 @@ def converted(part, kind):
     """A part of an open expression that takes this kind. N12 is at it where it comes in the text, before what is after it."""
     is_number = part.kind is UNIVERSAL and part.value is not None
     if is_number and not kind.has(part.value):
-        OUTSIDE.append(part.place)
+        if OUTSIDE is not None:
+            OUTSIDE.append(part.place)
         return part
     return taking(part, kind)
 
@@ -1572,8 +1713,10 @@ def over_kind(tree, kind):
 
 
 def compared(tree, kind):
-    """The Boolean tree with operands that have met a kind. Among universal ones an open one is an Integer, and they meet that."""
-    if kind is UNIVERSAL and any(map(is_open, parts_of(tree))):
+    """The Boolean tree with operands that have met a kind. Among universal ones an open one is an Integer, and they meet that, where
+    something takes a type.
+    """
+    if kind is UNIVERSAL and OUTSIDE is not None and any(map(is_open, parts_of(tree))):
         kind = DEFAULT
     return replace(over_kind(tree, kind), kind=BOOLEAN)
 
@@ -1706,6 +1849,46 @@ def rule_of(kind, step):
 def is_end(kind, steps):
     """Whether these steps are `'First` or `'Last`, after an array."""
     return kind.index is not None and [step.form for step in steps] == ["'"] and steps[0].name.word() in ('first', 'last')
+
+
+def is_aggregate(entity, steps):
+    """Whether a name that denotes this, and has these steps, begins as an aggregate: that of an array or record type."""
+    return entity.sort == 'type' and entity.subtype.kind.values == 'composites' and steps[0].form == "'("
+
+
+def spans_of(choices):
+    """The values of choices that cover some, in their order."""
+    return sorted((choice.low.value, choice.last()) for choice in choices if choice.low.value <= choice.last())
+
+
+def are_apart(spans):
+    """Whether no value is in two spans, which are in their order."""
+    return all(last < first for (_, last), (first, _) in zip(spans, spans[1:]))
+
+
+def cover(spans, missing, last):
+    """Whether each value between these two is in one of the spans, which are in their order."""
+    for low, high in spans:
+        if low <= missing:
+            missing = max(missing, high + 1)
+    return missing > last
+
+
+def is_complete(kind, given):
+    """Whether each component of an aggregate has one value, and each value of a record is for a field, where the values are for these."""
+    if kind.fields is not None:
+        return all(given) and sorted(word for words in given for word in words) == sorted(kind.fields)
+    spans, index = sorted(span for keys in given for span in keys or () if span[0] <= span[1]), kind.index
+    lie_within = all(index.has(first) and index.has(last) for first, last in spans)
+    return lie_within and are_apart(spans) and (None in given or cover(spans, index.first, index.last))
+
+
+def common_subtype(subtypes):
+    """The values that are in all of these types of one kind."""
+    first = subtypes[0]
+    if first.first is None:
+        return first
+    return Subtype(first.kind, max(subtype.first for subtype in subtypes), min(subtype.last for subtype in subtypes))
 
 
 def root_of(name):
@@ -2025,16 +2208,9 @@ class Resolver:
             choices = [choice for alternative in tree.alternatives for choice in self.choices(alternative, selector.kind) or []]
         except Refused:
             return True
-        spans = sorted((choice.low.value, choice.last()) for choice in choices if choice.low.value <= choice.last())
-        if any(last >= first for (_, last), (first, _) in zip(spans, spans[1:])):
-            return False
-        if tree.alternatives[-1].choices is None:
-            return True
-        missing, last = self.extent(tree.selector, selector.kind)
-        for low, high in spans:
-            if low <= missing:
-                missing = max(missing, high + 1)
-        return missing > last
+        spans = spans_of(choices)
+        has_others = tree.alternatives[-1].choices is None
+        return are_apart(spans) and (has_others or cover(spans, *self.extent(tree.selector, selector.kind)))
 
     def extent(self, tree, kind):
         """The first and the last value that a selector may have: of a name of an object or a part, of a conversion and of a qualification
@@ -2044,10 +2220,10 @@ class Resolver:
         return subtype.first, subtype.last
 
     def subtype_named(self, tree):
-        """The subtype of an object or a part that is named, of a conversion or of a qualification; else nothing."""
+        """The subtype of an object or a part that is named, of a part of an aggregate, of a conversion or of a qualification; else nothing."""
         entity = self.denoted(root_of(tree)) if isinstance(tree, (Name, Path)) else None
-        if isinstance(tree, Path) and entity.sort == 'variable':
-            _, subtype, rest = along(entity.subtype, tree.steps)
+        if isinstance(tree, Path) and (entity.sort == 'variable' or is_aggregate(entity, tree.steps)):
+            _, subtype, rest = along(entity.subtype, tree.steps[entity.sort == 'type':])
             return None if rest else subtype
         is_function = isinstance(tree, Path) and tree.steps[0].form == "'"
         return entity.subtype if entity and not is_function else None
@@ -2059,23 +2235,86 @@ class Resolver:
             return self.part(tree, entity)
         require('N1', tree.place, entity is not None)
         require('N3', tree.place, entity.sort == 'type')
+        if is_aggregate(entity, tree.steps):
+            first, *rest = tree.steps
+            return self.along(tree, entity.subtype, rest, lambda: self.aggregate(tree.root, entity.subtype.kind, first))
         return self.of_type(tree, entity.subtype)
 
     def part(self, tree, entity):
-        """N1, N3, N14: each step leads to a part, or it is `'First` or `'Last` after an array. N18: `~` may be there. Then the indexes.
+        """A part of a variable. N18: `~` may be there."""
+        is_on_entry = tree.steps[0].form == '~'
+        named = self.on_entry if is_on_entry else self.variable
+        return self.along(tree, entity.subtype, tree.steps[is_on_entry:], lambda: named(tree.root))
+
+    def along(self, tree, subtype, steps, resolved_root):
+        """N1, N3, N14: each of these steps of a name leads to a part, or it is `'First` or `'Last` after an array. Then comes that of which
+        they are parts, which is of the type, and then the indexes.
 
         Of an array the ends are those of its index, and are not static in a declaration.
         """
-        is_on_entry = tree.steps[0].form == '~'
-        way, subtype, rest = along(entity.subtype, tree.steps[is_on_entry:])
+        way, subtype, rest = along(subtype, steps)
         has_end = is_end(subtype.kind, rest)
         require(rest and rule_of(subtype.kind, rest[0]), tree.place, has_end or not rest)
-        root = (self.on_entry if is_on_entry else self.variable)(tree.root)
+        root = resolved_root()
         way = tuple(self.step(step) for step in way)
         if not has_end:
             return Part(root, way) if way else root
         index = subtype.kind.index
         return Static(None if self.is_declaring else end_named(index, rest[0].name), index.kind, tree.place)
+
+    def aggregate(self, name, kind, step):
+        """An aggregate of a type with parts. N16, before all parts: `others` is last; and where choices break no rule, components are given once.
+        Then come choices and values in the order of the text.
+        """
+        require('N12', name.place, not OUTSIDE)
+        require('N16', name.place, all(association.choices is not None for association in step.associations[:-1]))
+        require('N16', name.place, self.has_each_once(kind, step))
+        values = step.parts or [association.value for association in step.associations]
+        return Aggregate(name, kind, tuple(self.component(value, kind, keys) for value, keys in zip(values, self.keys(kind, step))))
+
+    def has_each_once(self, kind, step):
+        """Whether each component is given once; if choices break rules, it is so."""
+        try:
+            return is_complete(kind, list(self.keys(kind, step)))
+        except Refused:
+            return True
+
+    def keys(self, kind, step):
+        """What each value of an aggregate is for, in the order of the text. In a record `others` is for the fields that no choice names."""
+        if kind.fields is None:
+            first = kind.index.first
+            yield from (((first + at, first + at),) for at in range(len(step.parts)))
+            yield from (self.spans(association, kind.index.kind) for association in step.associations)
+            return
+        words = tuple(kind.fields)
+        yield from (words[at:at + 1] for at in range(len(step.parts)))
+        left = list(words)
+        for association in step.associations:
+            chosen = left if association.choices is None else [self.field(choice, kind) for choice in association.choices]
+            yield tuple(chosen)
+            left = [word for word in left if word not in chosen]
+
+    def spans(self, association, kind):
+        """The indexes that choices cover, of which no part takes a type; `others` has none of its own."""
+        with noting(None):
+            choices = self.choices(association, kind)
+        return choices and tuple((choice.low.value, choice.last()) for choice in choices)
+
+    def field(self, choice, kind):
+        """N1: a choice is the name of a field."""
+        is_field = isinstance(choice.low, Name) and choice.high is None and choice.low.word() in kind.fields
+        require('N1', choice.low.place, is_field)
+        return choice.low.word()
+
+    def component(self, tree, kind, keys):
+        """A value of an aggregate, which meets the type of the components that it is for. N10: this is of one kind. It is checked to lie in all of them."""
+        subtypes = [kind.element] if kind.element else [kind.fields[word].subtype for word in keys]
+        met = subtypes[0].kind
+        with noting([]):
+            value = self.expression(tree)
+            value = taking(value, met) if is_open(value) and met.values == 'numbers' else value
+            require('N10', value.place, all(subtype.kind is met for subtype in subtypes))
+            return Component(keys, whole(matching(value, met)), common_subtype(subtypes))
 
     def of_type(self, tree, subtype):
         """An attribute of a type, or a conversion, a function or a qualification. N3: no other step follows a type.
@@ -2303,7 +2542,7 @@ def reads(expression):
     """The variables that an expression names, from left to right, also for their values on entry."""
     if isinstance(expression, (Variable, OnEntry)):
         return [expression]
-    own = [expression.root] if isinstance(expression, Part) else []
+    own = reads(expression.root) if isinstance(expression, Part) else []
     return own + [name for part in parts_of(expression) for name in reads(part)]
 
 
@@ -2678,9 +2917,29 @@ class WithFieldTerm:
     kind: Kind
 
 
+@dataclass(frozen=True, eq=False)
+class AggregateTerm:
+    """`name'(key => part, others => part)`, over terms: an array or a record of these parts, in the order of the indexes or the fields.
+
+    Each part has a span of indexes or a field.
+    """
+    kind: Kind
+    components: tuple
+    others: Optional[object]
+
+    def parts(self):
+        """All its terms."""
+        return [part for _, part in self.components] + ([self.others] if self.others else [])
+
+    def at(self, index):
+        """The part at an index of the array."""
+        return next((part for (first, last), part in self.components if first <= index <= last), self.others)
+
+
 number, truth, entry, later = cache(NumberTerm), cache(TruthTerm), cache(EntryTerm), cache(LaterTerm)
 prefix, in_type, infix = cache(PrefixTerm), cache(InTerm), cache(InfixTerm)
 element, field_of, with_element, with_field = cache(ElementTerm), cache(FieldTerm), cache(WithElementTerm), cache(WithFieldTerm)
+aggregate = cache(AggregateTerm)
 
 
 @dataclass(frozen=True)
@@ -2744,6 +3003,8 @@ def term_of(expression, values):
         for step in expression.way:
             term = part_term(step, term, values)
         return term
+    if isinstance(expression, Aggregate):
+        return aggregate_term(expression, values)
     parts = [term_of(part, values) for part in parts_of(expression)]
     if isinstance(expression, Operation):
         return infix(IN_TERMS.get(expression.operator, expression.operator), *parts)
@@ -2753,6 +3014,18 @@ def term_of(expression, values):
         return moved_term(expression, *parts)
     is_kept = isinstance(expression, Prefix) and expression.operator != '+'
     return prefix(expression.operator, *parts) if is_kept else parts[0]
+
+
+def aggregate_term(expression, values):
+    """The components in the order of the indexes or the fields, each choice apart."""
+    kind, others, found = expression.kind, None, []
+    for component in expression.components:
+        term = term_of(component.value, values)
+        if component.keys is None:
+            others = term
+        found += [(key, term) for key in component.keys or ()]
+    words = list(kind.fields or ())
+    return aggregate(kind, tuple(sorted(found, key=lambda part: words.index(part[0]) if words else part[0][0])), others)
 
 
 def part_term(step, term, values):
@@ -2841,7 +3114,9 @@ def checks_of(expression, values):
     if expression.value is not None:
         return []
     if isinstance(expression, Part):
-        return checks_of_way(expression, values)
+        return checks_of(expression.root, values) + checks_of_way(expression, values)
+    if isinstance(expression, Aggregate):
+        return sum((checks_in(component.subtype, component.value, values) for component in expression.components), [])
     found = [checks_of(part, values) for part in parts_of(expression)]
     if isinstance(expression, Operation) and expression.operator in SHORT_CIRCUIT:
         left = term_of(expression.left, values)
@@ -2885,10 +3160,14 @@ def own_checks(expression, values):
 
 
 def checks_of_assignment(target, subtype, value, values):
-    """The checks of the target's indexes and of the right side, and that this lies in the type of the target, where that has an order."""
+    """The checks of the target's indexes and of the right side."""
+    return (checks_of_way(target, values) if isinstance(target, Part) else []) + checks_in(subtype, value, values)
+
+
+def checks_in(subtype, value, values):
+    """The checks of a value, and that it lies in a type, where that has an order."""
     goals = bounds_of(subtype, term_of(value, values))
-    way = checks_of_way(target, values) if isinstance(target, Part) else []
-    return way + checks_of(value, values) + ([Check('range', value.place, goals)] if goals else [])
+    return checks_of(value, values) + ([Check('range', value.place, goals)] if goals else [])
 
 
 def choices_term(choices, term):
@@ -3176,6 +3455,8 @@ def size_of(term):
         return size_of(term.left) + size_of(term.right) + 1
     if isinstance(term, OF_PARTS):
         return sum(size_of(part) for part in terms_in(term)) + 1
+    if isinstance(term, AggregateTerm):
+        return sum(size_of(part) for part in term.parts()) + 1
     return 1
 
 
@@ -3211,6 +3492,8 @@ def folded(term):
         return with_element(folded(term.whole), folded(term.index), folded(term.part), term.kind)
     if isinstance(term, WithFieldTerm):
         return with_field(folded(term.whole), term.word, folded(term.part), term.kind)
+    if isinstance(term, AggregateTerm):
+        return aggregate(term.kind, tuple((key, folded(part)) for key, part in term.components), term.others and folded(term.others))
     if not isinstance(term, InfixTerm):
         return term
     operator, left, right = term.operator, folded(term.left), folded(term.right)
@@ -3224,7 +3507,9 @@ def folded(term):
 
 
 def folded_element(whole, index, kind):
-    """At a literal in range, an element of an array that has another one at such a literal is that one, or it is of the array before."""
+    """At a literal in range, an element of an array that has another one at such a literal is that one, or it is of the array before. Of an
+    aggregate it is its part.
+    """
     def is_there(term):
         return isinstance(term, NumberTerm) and kind.index.has(term.value)
 
@@ -3232,16 +3517,16 @@ def folded_element(whole, index, kind):
         if whole.index is index:
             return whole.part
         whole = whole.whole
-    return element(whole, index, kind)
+    return whole.at(index.value) if is_there(index) and isinstance(whole, AggregateTerm) else element(whole, index, kind)
 
 
 def folded_field(whole, word, kind):
-    """A field of a record that has another one is that one, or it is of the record before."""
+    """A field of a record that has another one is that one, or it is of the record before. Of an aggregate it is its part."""
     while isinstance(whole, WithFieldTerm):
         if whole.word == word:
             return whole.part
         whole = whole.whole
-    return field_of(whole, word, kind)
+    return dict(whole.components)[word] if isinstance(whole, AggregateTerm) else field_of(whole, word, kind)
 
 
 def is_literal(term):
@@ -3256,7 +3541,7 @@ def is_of_numbers(comparison):
         return left.is_number
     if isinstance(left, PrefixTerm):
         return left.operator != 'not'
-    if isinstance(left, OF_PARTS):
+    if isinstance(left, OF_PARTS + (AggregateTerm,)):
         return isinstance(left, (ElementTerm, FieldTerm)) and left.subtype().kind.is_ordered()
     is_logical = isinstance(left, InfixTerm) and (left.operator in RELATIONS or left.operator in OF_TRUTHS)
     return not is_logical and not isinstance(left, TruthTerm)
@@ -3554,6 +3839,8 @@ class Printer:
             return f'{self.operand(term.operand, False)} in {term.name}'
         if isinstance(term, OF_PARTS):
             return self.text(term.whole) + self.end_text(term)
+        if isinstance(term, AggregateTerm):
+            return f"{term.kind.name}'({', '.join(self.component_texts(term))})"
         if isinstance(term, NumberTerm):
             return str(term.value)
         if isinstance(term, TruthTerm):
@@ -3568,6 +3855,13 @@ class Printer:
             return f'[{self.text(term.index)}]'
         at = term.kind.fields[term.word].name if isinstance(term, WithFieldTerm) else self.text(term.index)
         return f'[{at} => {self.text(term.part)}]'
+
+    def component_texts(self, term):
+        """Each part of an aggregate, after its index, its range of indexes or its field; last that which is for all others."""
+        for key, part in term.components:
+            yield f'{key_text(term.kind, key)} => {self.text(part)}'
+        if term.others:
+            yield f'others => {self.text(term.others)}'
 
     def operand(self, term, is_of_numbers):
         """An operation has parentheses. So has a number below 0, where an operation on numbers takes it."""
@@ -3585,6 +3879,14 @@ class Printer:
             return self.spelled[word]
         parameter, end_of_range = word.rsplit(' ', 1)
         return f'{self.spelled[parameter]}!{end_of_range}'
+
+
+def key_text(kind, key):
+    """A field, an index, or a range of indexes."""
+    if kind.fields is not None:
+        return kind.fields[key].name
+    first, last = key
+    return str(first) if first == last else f'{first} .. {last}'
 
 
 def listed_conditions(name, procedure, conditions):
@@ -3744,6 +4046,8 @@ class Run:
             for step in expression.way:
                 value = value.part(step, self.stated(step.index) if isinstance(step, Index) else step.word)
             return value
+        if isinstance(expression, Aggregate):
+            return composed(expression, [self.stated(part) for part in parts_of(expression)])
         value = computed_value(expression, [self.stated(part) for part in parts_of(expression)])
         if isinstance(value, int) and not fits(value):
             raise TooManyBits
@@ -3780,9 +4084,7 @@ class Run:
         target, word = statement.target, statement.target.word
         is_part = isinstance(target, Part)
         keys = [key_of(step, self.store) for step in target.way] if is_part else []
-        value = evaluated(statement.value, self.store)
-        if not (target.subtype if is_part else self.procedure.subtypes[word]).has(value):
-            raise Fault('range', statement.value.place)
+        value = evaluated_in(statement.value, target.subtype if is_part else self.procedure.subtypes[word], self.store)
         self.store[word] = evaluated(target.root, self.store).with_part(target.way, keys, value) if is_part else value
 
     def chosen(self, tree):
