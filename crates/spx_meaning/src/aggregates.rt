@@ -1,11 +1,15 @@
 // Where the values of an aggregate go, and the value that they make (Ada 95 RM 4.3).
-ghost use Rattle.std.specs.Prelude.{◌≡◌, ◌≤◌, ◌++◌, ℕ, IfOk, OnOk, IsTrue, length};
+ghost use Rattle.std.specs.Prelude.{◌≡◌, ◌<◌, ◌≤◌, ◌++◌, ◌+ℤ◌, ℕ, pos, int_le, int_lt, nat_lt, map, IfOk, OnOk, IsTrue, length};
 ghost use Rattle.std.specs.List.{insert, range_with_len};
 ghost use Rattle.spx_core.specs.declared.aggregate.Given.TheVariants as given;
 ghost use Rattle.spx_core.specs.Aggregates.{is_others};
-ghost use Rattle.spx_meaning.specs.Aggregates.{first_of_slot, in_order, inserted, others_in, placed, slots, slots_of};
+ghost use Rattle.spx_term.specs.declared.value.Value.{Value};
+ghost use Rattle.spx_term.specs.Values.{filled, replaced, with_elements};
+ghost use Rattle.spx_meaning.specs.Aggregates.{first_of_slot, in_order, inserted, others_in, placed, slots, slots_of, with_slot};
 
+use crate::values::with_field;
 use spx_core::{Composition, Given, Role, Span};
+use spx_term::Value;
 use sqlite_items::Items;
 use std::alloc::{AllocError, Global};
 
@@ -168,4 +172,109 @@ pub fn others_of(composition: &Composition, count: usize) -> Option<usize>
         }
     }
     None
+}
+
+// ---- values
+
+/// How many elements come before an index, where the first of so many has this index.
+fn count_before(first: i128, len: usize, index: i128) -> usize
+    ensures within { result ≤ len }
+    ensures before { (k : ℕ) → k < len → nat_lt k result ≡ int_lt (first +ℤ pos k) index }
+{
+    if index <= first {
+        return 0;
+    }
+    match index.checked_sub(first) {
+        Some(steps) if steps < len as i128 => steps as usize,
+        _ => len,
+    }
+}
+
+/// How many do not come after it.
+fn count_up_to(first: i128, len: usize, index: i128) -> usize
+    ensures within { result ≤ len }
+    ensures before { (k : ℕ) → k < len → nat_lt k result ≡ int_le (first +ℤ pos k) index }
+{
+    if index < first {
+        return 0;
+    }
+    match index.checked_sub(first) {
+        Some(steps) if steps < len as i128 => steps as usize + 1,
+        _ => len,
+    }
+}
+
+/// Puts a copy of the part at each index of the span, where the first element has this index.
+fn replace(
+    alloc: Global,
+    first: i128,
+    elements: &mut Items<Value>,
+    span: Span,
+    part: &Value,
+) -> Result<(), AllocError>
+    ensures { OnOk result (elements.new ≡ replaced span.first span.last part.now first elements.old) }
+{
+    let start = count_before(first, elements.len(), span.first);
+    let end = count_up_to(first, elements.len(), span.last).max(start);
+    for k in start..end {
+        elements.set(k, part.copy(alloc)?);
+    }
+    Ok(())
+}
+
+/// The value with a copy of the part at each index of the span, as far as it has them.
+#[tactic(auto, using(crate::proofs::SpanValues::span_forms))]
+fn with_elements(alloc: Global, whole: Value, span: Span, part: &Value) -> Result<Value, AllocError>
+    ensures { IfOk result (λ value. value ≡ with_elements span.first span.last part.now whole) }
+{
+    match whole {
+        Value::Number(number) => Ok(Value::Number(number)),
+        Value::Truth(truth) => Ok(Value::Truth(truth)),
+        Value::Elements(first, elements) => {
+            let mut elements = elements;
+            replace(alloc, first, &mut elements, span, part)?;
+            Ok(Value::Elements(first, elements))
+        }
+        Value::Fields(fields) => Ok(Value::Fields(fields)),
+    }
+}
+
+/// The value with a copy of the part in the slot.
+pub fn with_slot(alloc: Global, whole: Value, slot: Slot, part: &Value) -> Result<Value, AllocError>
+    ensures { IfOk result (λ value. value ≡ with_slot slot part.now whole) }
+{
+    match slot {
+        Slot::Elements(span) => with_elements(alloc, whole, span, part),
+        Slot::Field(position) => {
+            let part = part.copy(alloc)?;
+            Ok(with_field(whole, position, part))
+        }
+    }
+}
+
+/// Copies of the part in the place of all elements.
+fn replace_all(alloc: Global, elements: &mut Items<Value>, part: &Value) -> Result<(), AllocError>
+    ensures { OnOk result (elements.new ≡ map (λ (_ : Value). part.now) elements.old) }
+{
+    for k in 0..elements.len() {
+        elements.set(k, part.copy(alloc)?);
+    }
+    Ok(())
+}
+
+/// The value with a copy of the part at each index.
+#[tactic(auto, using(crate::proofs::SpanValues::span_forms))]
+pub fn filled(alloc: Global, whole: Value, part: &Value) -> Result<Value, AllocError>
+    ensures { IfOk result (λ value. value ≡ filled part.now whole) }
+{
+    match whole {
+        Value::Number(number) => Ok(Value::Number(number)),
+        Value::Truth(truth) => Ok(Value::Truth(truth)),
+        Value::Elements(first, elements) => {
+            let mut elements = elements;
+            replace_all(alloc, &mut elements, part)?;
+            Ok(Value::Elements(first, elements))
+        }
+        Value::Fields(fields) => Ok(Value::Fields(fields)),
+    }
 }
