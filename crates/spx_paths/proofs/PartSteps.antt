@@ -16,7 +16,7 @@ use Rattle.spx_term.specs.Steps.{Tree}
 use Rattle.spx_meaning.specs.Aggregates.{placed}
 use Rattle.spx_arena.specs.declared.terms.TermId.{TermId}
 use Rattle.spx_arena.specs.Claims.{AreIds, trees_at}
-use Rattle.spx_arena.specs.Sharing.{tree_at, Adds}
+use Rattle.spx_arena.specs.Sharing.{Adds}
 use Rattle.spx_formula.specs.Aggregates.{composed_term}
 use Rattle.spx_formula.specs.Terms.{now_term, term_of}
 use Rattle.spx_formula.proofs.Expressions.{aggregate_term}
@@ -26,7 +26,7 @@ use Rattle.spx_paths.specs.Drafts.{laid}
 use Rattle.spx_paths.specs.PartChecks.{ChecksPart, ChecksParts, after_first, part_checks, parts_in_code, past_fields, value_type}
 use Rattle.spx_paths.specs.Waiting.{Checked, Finds, Gives, Keeps, MeanAll, Means, Whole}
 use Rattle.spx_paths.proofs.CheckLaws.{aggregate_checks}
-use Rattle.spx_paths.proofs.CheckSteps.{all_kept, finds_along, finds_twice, id_kept, ids_kept, keeps_not, keeps_twice, left_more, means_kept, only_gives, with_terms}
+use Rattle.spx_paths.proofs.CheckSteps.{all_kept, finds_along, finds_twice, ids_kept, keeps_not, keeps_twice, left_more, means_kept, only_gives, with_terms}
 
 -- ---- one part after the other
 module _ (lefts : List Term) where
