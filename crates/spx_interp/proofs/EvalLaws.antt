@@ -1,10 +1,11 @@
 -- Evaluation of static expressions.
 use Rattle.std.proofs.Common.{◌≡◌, ℕ, ℤ, Bool, true, false, Option, Some, None, Ok, Err, refl, sym, ap, ◌∙◌}
-use Rattle.std.specs.Prelude.{if◌then◌else◌}
+use Rattle.std.specs.Prelude.{List, if◌then◌else◌, map}
 use Rattle.spx_text.specs.declared.place.Place.{Place}
 use Rattle.spx_tree.specs.declared.expression.Identifier.{Identifier}
+use Rattle.spx_core.specs.declared.aggregate.Composition.{Composition}
 use Rattle.spx_core.specs.declared.expression.CoreExpr.{CoreExpr}
-use Rattle.spx_core.specs.declared.expression.CoreExpr.TheVariants.{Number, Entry, Parenthesized, Element, Selected, Faulty}
+use Rattle.spx_core.specs.declared.expression.CoreExpr.TheVariants.{Number, Entry, Parenthesized, Element, Selected, Aggregate, Faulty}
 use Rattle.spx_core.specs.declared.name.CoreName.{CoreName}
 use Rattle.spx_core.specs.declared.name.FaultyName.{FaultyName}
 use Rattle.spx_core.specs.declared.part.Indexing.{Indexing}
@@ -12,10 +13,10 @@ use Rattle.spx_core.specs.declared.part.Selection.{Selection}
 use Rattle.spx_core.specs.declared.rule.ExprType.{ExprType}
 use Rattle.spx_core.specs.declared.rule.ExprType.TheVariants.{Of}
 use Rattle.spx_core.specs.declared.rule.Typing.{Typing}
-use Rattle.spx_core.specs.Judged.{Judged, ◌>>=◌, expr_step, indexed, judged, keeps, named_object, typing}
-use Rattle.spx_core.specs.Types.{is_parted, is_typed_at}
-use Rattle.spx_core.specs.declared.rule.RuleName.TheVariants.{N10, N18}
-use Rattle.spx_core.proofs.Callers.Expressions.{induct, fold-Number, fold-Entry, fold-Parenthesized, fold-Element, fold-Selected, fold-Faulty}
+use Rattle.spx_core.specs.Judged.{Judged, ◌>>=◌, expr_step, has_right_components, indexed, judged, judged_parts, keeps, named_object, named_type, typing}
+use Rattle.spx_core.specs.Types.{is_parted, is_type_at, is_typed_at}
+use Rattle.spx_core.specs.declared.rule.RuleName.TheVariants.{N10, N16, N18}
+use Rattle.spx_core.proofs.Callers.Expressions.{induct, fold-Number, fold-Entry, fold-Parenthesized, fold-Element, fold-Selected, fold-Aggregate, fold-Faulty}
 use Rattle.spx_term.specs.declared.value.Value.{Value}
 use Rattle.spx_term.specs.declared.value.Value.TheVariants as value
 use Rattle.spx_meaning.specs.Evaluation.{Answer, Gives, with_value, eval, eval_forms, eval-ArrayAttribute, eval-Number, eval-Name, eval-Attribute, eval-Applied, eval-Parenthesized, eval-Implicit, eval-Prefix, eval-Infix, eval-InType, eval-InRange}
@@ -64,6 +65,15 @@ literal-Selected : (a : CoreExpr) (field : Identifier) (x : Selection) → liter
 literal-Selected a field x =
     ap literal_in (fold-Selected expr_step a field x) ∙ then_none (judged a) _ (λ t. then_none (keeps N10 t.place (is_typed_at x.record t.of)) _ (λ _. no_value (Of x.field.base) t.place))
 
+-- nor is an aggregate
+literal-Aggregate : (name : CoreName) (c : Composition) (parts : List CoreExpr) → literal (Aggregate name c parts) ≡ None
+literal-Aggregate name c parts =
+    ap literal_in (fold-Aggregate expr_step name c parts)
+    ∙ then_none (named_type name) _ (λ subtype.
+    then_none (keeps N10 name.name.place (is_type_at c.of subtype.base)) _ (λ _.
+    then_none (keeps N16 name.name.place (has_right_components c (map judged parts))) _ (λ _.
+    then_none (judged_parts c.roles (map judged parts)) _ (λ _. no_value (Of subtype.base) name.name.place))))
+
 literal-Number : (n : ℤ) (place : Place) → literal (Number n place) ≡ Some (value.Number n)
 literal-Number n place = ap literal_in (fold-Number expr_step n place)
 
@@ -87,6 +97,7 @@ eval_static f n s = induct (λ e. (x : Value) → literal e ≡ Some x → eval 
   element = λ a place i part first second x is. absurd (let none : None ≡ Some x = sym (literal-Element a place i part) ∙ is in cc);
   selected = λ a field part first x is. absurd (let none : None ≡ Some x = sym (literal-Selected a field part) ∙ is in cc);
   array_attribute = λ a designator ends first x is. rw (eval-ArrayAttribute f n s a designator ends) (ap Gives (sym (end_literal a designator ends x is)));
+  aggregate = λ name c parts all x is. absurd (let none : None ≡ Some x = sym (literal-Aggregate name c parts) ∙ is in cc);
   faulty = λ faulty x is. absurd (let none : None ≡ Some x = sym (literal-Faulty faulty) ∙ is in cc);
 })
 

@@ -2,6 +2,8 @@ pub mod BitLaws
 pub mod BoundLaws
 pub mod MappingLaws
 pub mod WayLaws
+pub mod AggregateLaws
+pub mod GatherLaws
 pub mod PartLaws
 pub mod EvalLaws
 pub mod RunForms

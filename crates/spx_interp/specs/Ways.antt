@@ -41,7 +41,7 @@ OnStep (Err (stop.Failed fault)) rest go answer = answer ≡ Fails fault.kind fa
 OnStep (Err stop.Memory) rest go answer = ⊤
 
 -- the answer is what follows the value; nothing is said where memory runs out
-abbrev pub OnValue : Result Value Stop → (Value → Answer) → Answer → Type 0
+abbrev pub OnValue : {A : Type 0} → Result A Stop → (A → Answer) → Answer → Type 0
 OnValue (Ok x) go answer = answer ≡ go x
 OnValue (Err (stop.Failed fault)) go answer = answer ≡ Fails fault.kind fault.place
 OnValue (Err stop.Memory) go answer = ⊤

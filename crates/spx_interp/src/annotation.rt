@@ -1,11 +1,13 @@
 // The values of annotations. They have one always, and only their numbers have a limit.
-ghost use Rattle.std.specs.Prelude.{Some, option_map};
+ghost use Rattle.std.specs.Prelude.{Some, map, option_map};
 ghost use Rattle.spx_term.specs.Meaning.{as_truth};
 ghost use Rattle.spx_meaning.specs.Stores.{reading, reading_of, seen, types_of};
+ghost use Rattle.spx_meaning.specs.Aggregates.{all_there, composed, placed};
 ghost use Rattle.spx_meaning.specs.Parts.{element_value, field_value};
 ghost use Rattle.spx_meaning.specs.Bits.{computed};
 ghost use Rattle.spx_interp.specs.Results.{Computes, frame_of};
 
+use crate::aggregates::composed;
 use crate::body::Body;
 use crate::evaluation::{end_value, first_in, last_in};
 use crate::fault::RunFault;
@@ -15,9 +17,10 @@ use crate::operations::{applied, mapped, member, signed};
 use crate::parts::{PlacedStep, part};
 use crate::slots::look;
 use crate::stop::fitting;
-use spx_core::{CoreExpr, Indexing, Program, Selection, VarId, variable_of};
+use spx_core::{Composition, CoreExpr, Indexing, Program, Selection, VarId, variable_of};
 use spx_meaning::{Value, type_of};
 use spx_static::literal;
+use sqlite_items::Items;
 use std::alloc::Global;
 
 /// What a variable counts as. An unset one counts as the first value of its type.
@@ -86,6 +89,18 @@ fn field<'a>(
     Ok(field)
 }
 
+/// The value of an aggregate whose expressions have these values.
+fn aggregate<'a>(
+    body: &Body,
+    composition: &Composition,
+    values: &[Value],
+) -> Result<Operand<'a>, RunFault>
+    ensures { Computes result (Some (composed (types_of body.now.program.now) composition.now (placed composition.now.roles values.now))) }
+{
+    let value = composed(body.alloc, body.program, composition, values)?;
+    Ok(Operand::own(value))
+}
+
 /// The value of an annotation, if 128 bits hold each number that is computed in it.
 #[cycle(computed)]
 #[tactic(auto, using(crate::proofs::BitLaws::operation_laws))]
@@ -149,8 +164,29 @@ fn computed<'a>(
             field(body, whole, selection.get())
         }
         CoreExpr::ArrayAttribute(_, designator, ends) => Ok(end_value(ends.get(), designator)),
+        CoreExpr::Aggregate(_, composition, parts) => {
+            let values = computed_parts(body, store, parts.as_slice())?;
+            aggregate(body, composition.get(), values.as_slice())
+        }
         CoreExpr::Faulty(_) => Ok(Operand::number(0)),
     }
+}
+
+/// The values of the expressions of an aggregate, in the order of the text.
+#[cycle(computed)]
+fn computed_parts(
+    body: &Body,
+    store: &[Option<Value>],
+    parts: &[CoreExpr],
+) -> Result<Items<Value>, RunFault>
+    ensures { Computes result (all_there (map (computed (frame_of body.now) store.now) parts.now)) }
+{
+    let mut values = Items::new(body.alloc);
+    for part in parts {
+        let value = computed(body, store, part)?;
+        values.push(value.into_value(body.alloc)?)?;
+    }
+    Ok(values)
 }
 
 /// Whether an annotation is true, if 128 bits hold each number that is computed in it.

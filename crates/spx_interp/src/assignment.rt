@@ -13,14 +13,14 @@ ghost use Rattle.spx_interp.specs.Rooms.{HasRoom};
 ghost use Rattle.spx_interp.specs.Ways.{AfterWay, OnStep, OnValue, OnWay, part_set, step_of};
 
 use crate::body::Body;
-use crate::evaluation::{eval, eval_value, index_checked};
+use crate::evaluation::{eval, eval_value, in_part, index_checked};
 use crate::fault::RunFault;
 use crate::parts::{PlacedStep, with_end};
 use crate::slots::{put, take};
 use crate::step::Step;
 use crate::stop::Stop;
 use spx_core::{CoreExpr, PartStep, Subtype, Target, UNIVERSAL, VarId, variable_of};
-use spx_meaning::{Bad, BadKind, Value, lies_in};
+use spx_meaning::{Bad, BadKind, Value};
 use spx_text::Place;
 use sqlite_items::Items;
 use std::alloc::Global;
@@ -87,14 +87,7 @@ fn right_side(
     ensures { (go : Value → Answer) → OnValue result go (with_value (eval (frame_of body.now) turns store.now expr.now) (λ x. in_part (part_type UNIVERSAL way.now) (place_of expr.now) x (go x))) }
 {
     let value = eval_value(body, turns, store, expr)?;
-    if lies_in(part_type(way), &value) {
-        Ok(value)
-    } else {
-        Err(Stop::Failed(Bad {
-            kind: BadKind::Range,
-            place: expr.place(),
-        }))
-    }
+    in_part(part_type(way), expr.place(), value)
 }
 
 /// Changes a part of a variable in its place. The variable, whose name is at the place, must be set.

@@ -1,5 +1,5 @@
 // The value of an expression in code, or the first check that fails.
-ghost use Rattle.std.specs.Prelude.{◌≡◌, pos, int_lt, if◌then◌else◌, IsSome, Some};
+ghost use Rattle.std.specs.Prelude.{◌≡◌, pos, int_lt, if◌then◌else◌, List, map, IsSome, Some};
 ghost use Rattle.spx_core.specs.declared.entity.Class.TheVariants.{Integer};
 ghost use Rattle.spx_term.specs.declared.value.Value.{Value};
 ghost use Rattle.spx_term.specs.declared.value.Value.TheVariants as value;
@@ -7,13 +7,17 @@ ghost use Rattle.spx_term.specs.Meaning.{as_number, same_value};
 ghost use Rattle.spx_meaning.specs.declared.bad.BadKind.TheVariants as bad;
 ghost use Rattle.spx_core.specs.Judged.{application};
 ghost use Rattle.spx_core.specs.Places.{place_of};
-ghost use Rattle.spx_meaning.specs.Evaluation.{Gives, Fails, checked, decided, end_value, eval, first_in, in_base, in_index, last_in, mapping_checked, read, signed, static_or, within_bounds};
+ghost use Rattle.spx_meaning.specs.Aggregates.{composed, placed};
+ghost use Rattle.spx_meaning.specs.Evaluation.{Answer, Gives, Fails, checked, decided, end_value, eval, first_in, in_base, in_index, in_part, last_in, mapping_checked, read, signed, static_or, within_bounds};
 ghost use Rattle.spx_meaning.specs.Literals.{base_of, literal};
 ghost use Rattle.spx_meaning.specs.Stores.{is_within, types_of};
 ghost use Rattle.spx_meaning.specs.Parts.{element_value, field_value};
 ghost use Rattle.spx_meaning.specs.Bits.{held};
+ghost use Rattle.spx_interp.specs.Aggregates.{has_part, on_part, on_parts};
 ghost use Rattle.spx_interp.specs.Results.{Answers, InIndex, answered, bounded, frame_of, truth_answered};
+ghost use Rattle.spx_interp.specs.Ways.{OnValue};
 
+use crate::aggregates::composed;
 use crate::body::Body;
 use crate::numbers::{modulus, remainder};
 use crate::operand::Operand;
@@ -22,14 +26,15 @@ use crate::parts::{PlacedStep, part};
 use crate::slots::look;
 use crate::stop::{Stop, answer};
 use spx_core::{
-    ArrayEnds, BaseType, Class, CoreExpr, CoreFunction, Indexing, Reference, Selection, Span,
-    VarId, variable_of,
+    ArrayEnds, BaseType, Class, Composition, CoreExpr, CoreFunction, Indexing, Reference, Role,
+    Selection, Span, Subtype, VarId, variable_of,
 };
-use spx_meaning::{Bad, BadKind, Value, is_same, is_within};
+use spx_meaning::{Bad, BadKind, Value, is_same, is_within, lies_in};
 use spx_static::{base_of, literal, subtype_of};
 use spx_text::Place;
 use spx_tree::{Identifier, InfixOp, PrefixOp};
 use spx_types::{application, attribute_of};
+use sqlite_items::Items;
 
 /// The first value of the type that a name denotes.
 pub(crate) fn first_in<'a>(name: &Reference) -> Operand<'a>
@@ -297,6 +302,44 @@ fn field<'a>(body: &Body, whole: Operand<'a>, selection: &Selection) -> Result<O
     Ok(field)
 }
 
+/// The value of an expression at the place, if it lies in the range of the type of the part that it is for.
+pub(crate) fn in_part(of: Subtype, place: Place, value: Value) -> Result<Value, Stop>
+    ensures { (go : Value → Answer) → OnValue result go (in_part of place value (go value)) }
+{
+    if lies_in(of, &value) {
+        Ok(value)
+    } else {
+        Err(Stop::Failed(Bad {
+            kind: BadKind::Range,
+            place,
+        }))
+    }
+}
+
+/// Whether one of the expressions of an aggregate has this role.
+fn has_part(role: &Role) -> bool
+    ensures { result ≡ has_part role.now }
+{
+    match role {
+        Role::Index(_) => true,
+        Role::Field(_) => false,
+        Role::NoField(_, _) => false,
+        Role::Value(_, _, _) => true,
+    }
+}
+
+/// The value of an aggregate whose expressions have these values.
+fn aggregate<'a>(
+    body: &Body,
+    composition: &Composition,
+    values: &[Value],
+) -> Result<Operand<'a>, Stop>
+    ensures { Answers result (Gives (composed (types_of body.now.program.now) composition.now (placed composition.now.roles values.now))) }
+{
+    let value = composed(body.alloc, body.program, composition, values)?;
+    Ok(Operand::own(value))
+}
+
 /// The value of an expression within a bound. A static one stands for its value.
 #[cycle(eval)]
 #[tactic(auto, using(crate::proofs::EvalLaws::eval_laws))]
@@ -356,7 +399,59 @@ pub(crate) fn eval<'a>(
             field(body, whole, selection.get())
         }
         CoreExpr::ArrayAttribute(_, designator, ends) => Ok(end_value(ends.get(), designator)),
+        CoreExpr::Aggregate(_, composition, parts) => {
+            let roles = composition.get().roles.as_slice();
+            let values = eval_parts(body, turns, store, parts.as_slice(), roles)?;
+            aggregate(body, composition.get(), values.as_slice())
+        }
         CoreExpr::Faulty(_) => Ok(Operand::number(0)),
+    }
+}
+
+/// The values of the expressions of an aggregate that have a role, in the order of the text.
+#[cycle(eval)]
+fn eval_parts(
+    body: &Body,
+    turns: u64,
+    store: &[Option<Value>],
+    parts: &[CoreExpr],
+    roles: &[Role],
+) -> Result<Items<Value>, Stop>
+    ensures { (go : List Value → Answer) → OnValue result go (on_parts roles.now (map (λ e. (place_of e, eval (frame_of body.now) turns store.now e)) parts.now) go) }
+{
+    let mut values = Items::new(body.alloc);
+    for role in roles {
+        let k = values.len();
+        if k == parts.len() {
+            return Ok(values);
+        }
+        if has_part(role) {
+            values.push(eval_part(body, turns, store, &parts[k], role)?)?;
+        }
+    }
+    Ok(values)
+}
+
+/// The value of an expression of an aggregate. A choice is static: it is not evaluated, and 0 stands for it.
+#[cycle(eval)]
+fn eval_part(
+    body: &Body,
+    turns: u64,
+    store: &[Option<Value>],
+    part: &CoreExpr,
+    role: &Role,
+) -> Result<Value, Stop>
+    ensures { (go : Value → Answer) → OnValue result go (on_part role.now (place_of part.now) (eval (frame_of body.now) turns store.now part.now) go) }
+{
+    match role {
+        Role::Index(_) => Ok(Value::Number(0)),
+        Role::Field(_) => Ok(Value::Number(0)),
+        Role::NoField(_, _) => Ok(Value::Number(0)),
+        Role::Value(_, of, _) => {
+            let value = eval(body, turns, store, part)?;
+            let value = value.into_value(body.alloc)?;
+            in_part(*of.get(), part.place(), value)
+        }
     }
 }
 

@@ -1,8 +1,9 @@
 // The first values of types, as far as there is room for them.
 ghost use Rattle.std.specs.Prelude.{◌≡◌, IfOk};
+ghost use Rattle.spx_term.specs.Values as values;
 ghost use Rattle.spx_meaning.specs.Stores as stores;
 
-use spx_core::{Class, Field, Program, Subtype, TypeForm, TypeId};
+use spx_core::{BaseType, Class, Field, Program, Subtype, TypeForm, TypeId};
 use spx_meaning::Value;
 use std::alloc::{AllocError, Global};
 
@@ -69,4 +70,27 @@ pub(crate) fn first_value(
         Some(_) => spx_meaning::first_value(alloc, program, subtype),
         None => Err(AllocError),
     }
+}
+
+/// The first value of the composite type at a position of the table.
+pub(crate) fn first_composite(
+    alloc: Global,
+    program: &Program,
+    id: TypeId,
+) -> Result<Value, AllocError>
+    ensures { IfOk result (λ value. value ≡ values.first_value (stores.types_of program.now id.0)) }
+{
+    let base = BaseType {
+        id,
+        class: Class::Composite,
+        first: 0,
+        last: 0,
+    };
+    let subtype = Subtype {
+        id,
+        base,
+        first: 0,
+        last: 0,
+    };
+    first_value(alloc, program, subtype)
 }

@@ -6,6 +6,7 @@
 //! at most 1,000,000 array elements: where they have more, the answer is `TooLarge` before the run (`has_many_elements`).
 #![tactic(auto)]
 
+mod aggregates;
 mod annotation;
 mod assignment;
 mod body;
